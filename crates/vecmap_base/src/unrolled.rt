@@ -158,8 +158,9 @@ fn find_of_eight<T, Q, C: Compare<Q, T>>(
     Some(at + 7)
 }
 
-// Returns the index of the first item from `from` on that matches `query`, after as many comparisons as it takes one by
-// one. No item before `from` matches, and `from` items were compared.
+// Returns the index of the first item that matches `query`. No item before `from` matches. It compares the items from
+// `from` on one by one, up to the first that matches. So its comparisons and `from` more are those of a search that
+// compares each item once, in order.
 fn find_from<T, Q, C: Compare<Q, T>>(
     items: &[T],
     from: usize,
@@ -245,8 +246,9 @@ fn is_any_of_four<T, Q, C: Compare<Q, T>>(
     a | b | c | d
 }
 
-// Returns `true` if one of the items from `from` on matches `query`. No item before `from` matches, and `from` items
-// were compared.
+// Returns `true` if an item matches `query`. No item before `from` matches. It compares the items from `from` on one by
+// one, up to the first that matches. So its comparisons and `from` more are those of a search that compares each item
+// once, in order.
 fn is_any_from<T, Q, C: Compare<Q, T>>(items: &[T], from: usize, query: &Q, compare: &mut C) -> bool
     requires within { from ≤ length items.now }
     requires none_before { list_any (C.equal query.now) (take from items.now) ≡ false }

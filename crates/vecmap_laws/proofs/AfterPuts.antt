@@ -1,11 +1,12 @@
 -- What is found, and at which index, after one insertion and after many.
 pub use Rattle.vecmap_base.proofs.PairsLemmas.AtIndices.{index_of_put_key, length_put_key}
+pub use Rattle.vecmap_base.proofs.PairsLemmas.Puts.{put_some}
 use Rattle.std.specs.{Cmp.IsEquivalence, List.list_any, Map.keys_of, Map.values_of, Option.option_and_then, Option.option_map, Option.option_map_or, Option.option_or}
 use Rattle.std.proofs.Common.{◌≡◌, ◌<◌, ◌+◌, ℕ, zero, Bool, position, true, false, List, [], ◌∷◌, ◌++◌, Option, None, Some, if◌then◌else◌, is_some, length, slice_get, suc, unwrap_or, refl, sym, ap, ◌∙◌, arith, length-append, true≢false}
 use Rattle.std.proofs.lemmas.{List.length-map, Map.Made.is_some-lookup, Option.slice_get-map}
 use Rattle.vecmap_base.specs.Pairs.{HasDistinctKeys, index_of, index_or_length, lookup, put, put_key, puts, value_at, with_value, without_key}
 use Rattle.vecmap_base.proofs.PairsLemmas.Keys.{index_of_is, keys_of_put}
-use Rattle.vecmap_base.proofs.PairsLemmas.{ByIndex.lookup_by_index, ByIndex.put_by_index, Indices.is_some_index_of, Recursion.put_cons}
+use Rattle.vecmap_base.proofs.PairsLemmas.{ByIndex.lookup_by_index, ByIndex.put_by_index, Indices.is_some_index_of}
 use Rattle.std.proofs.lemmas.Map.{lookup-remove_entry}
 use Rattle.vecmap_base.proofs.PairsLemmas.Lookups.{updates_put}
 use Rattle.vecmap_laws.proofs.Indices.{index_of_none}
@@ -71,19 +72,10 @@ module _ {K V : Type 0} (eq : K → K → Bool) where
       by true e more = refl
       by false e more = more (λ f. other (ap (λ b. if b then Some 0 else option_map suc (index_of eq ps k)) e ∙ ap (option_map suc) f))
 
-  -- After an insertion the list has a pair.
-  pub put_some : (l : List (K × V)) (k : K) (v : V) → 0 < length (put eq l k v)
-  put_some [] k v = omega arith
-  put_some (p ∷ ps) k v = by (eq k p.0) (put_cons eq p ps k v)
-    where
-      by : (b : Bool) → put eq (p ∷ ps) k v ≡ (if b then (p.0, v) ∷ ps else p ∷ put eq ps k v) → 0 < length (put eq (p ∷ ps) k v)
-      by true e = rw e (omega arith)
-      by false e = rw e (omega arith)
-
   -- After insertions the list has a pair, if it had one before or one was inserted.
   pub puts_some : (l ps : List (K × V)) → 0 < length l + length ps → 0 < length (puts eq l ps)
   puts_some l [] h = omega (arith, h)
-  puts_some l (p ∷ ps) h = puts_some (put eq l p.0 p.1) ps (omega (arith, put_some l p.0 p.1))
+  puts_some l (p ∷ ps) h = puts_some (put eq l p.0 p.1) ps (omega (arith, put_some eq l p.0 p.1))
 
   module _ (o : IsEquivalence eq) where
     -- If all keys are distinct, each pair is found by its key, at its own index.

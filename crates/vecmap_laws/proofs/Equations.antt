@@ -1,15 +1,15 @@
 -- Equations between lists that calls leave.
 use Rattle.std.specs.{Cmp.IsEquivalence, Map.values_of, Option.option_eq, Option.option_map_or, Option.option_or}
-use Rattle.std.proofs.Common.{◌≡◌, ◌≤◌, ◌+◌, ℕ, Bool, true, false, List, [], ◌∷◌, Option, None, Some, if◌then◌else◌, length, refl, sym, ap, ◌∙◌, arith, subst, IsTrue, IsSome}
+use Rattle.std.proofs.Common.{◌≡◌, ◌+◌, ℕ, Bool, true, false, List, [], ◌∷◌, Option, None, Some, if◌then◌else◌, refl, sym, ap, ◌∙◌, arith, subst, IsTrue, IsSome}
 use Rattle.std.specs.List.{sum_by}
 use Rattle.std.proofs.lemmas.List.Sums.{sum_by-cons}
 use Rattle.vecmap_base.specs.Pairs.{HasDistinctKeys, lookup, put, puts, without_by, without_key}
-use Rattle.vecmap_laws.proofs.AfterPuts.{length_put, lookup_put_any, lookup_puts_distinct}
+use Rattle.vecmap_laws.proofs.AfterPuts.{lookup_put_any, lookup_puts_distinct}
 use Rattle.vecmap_laws.proofs.DistinctKeys.{distinct_put, distinct_puts}
 use Rattle.vecmap_laws.proofs.MapEquality.{equal_where_lookups_agree}
 use Rattle.vecmap_base.specs.Equality.{has_same_counts}
 use Rattle.vecmap_laws.proofs.Recursion.{lookup_cons, put_cons, without_key_cons}
-pub use Rattle.vecmap_base.proofs.PairsLemmas.Puts.{length_puts_at_most as length_puts_most}
+pub use Rattle.vecmap_base.proofs.PairsLemmas.Puts.{length_puts_at_most as length_puts_most, length_puts_least}
 
 module _ {K V : Type 0} (eq : K → K → Bool) where
   module _ (o : IsEquivalence eq) where
@@ -35,11 +35,6 @@ module _ {K V : Type 0} (eq : K → K → Bool) where
         by true false e f h = grind (arith, without_key_cons eq p ps a, without_key_cons eq p ps b, without_key_cons eq p (without_key eq ps b) a, e, f)
         by false true e f h = grind (arith, without_key_cons eq p ps a, without_key_cons eq p ps b, without_key_cons eq p (without_key eq ps a) b, e, f)
         by false false e f h = grind (arith, without_key_cons eq p ps a, without_key_cons eq p ps b, without_key_cons eq p (without_key eq ps a) b, without_key_cons eq p (without_key eq ps b) a, e, f, h)
-
-  -- After insertions the list is at least as long as before, and longer by at most one pair for each.
-  pub length_puts_least : (l ps : List (K × V)) → length l ≤ length (puts eq l ps)
-  length_puts_least l [] = omega arith
-  length_puts_least l (p ∷ ps) = grind (arith, length_puts_least (put eq l p.0 p.1) ps, length_put eq l p.0 p.1)
 
 module _ {K V : Type 0} (eq : K → K → Bool) (g : V → ℕ) where
   -- The sum of `g` of the values after an insertion, in which the old value of the key is replaced.

@@ -1,16 +1,11 @@
 -- The keys of a list of pairs, as a list of elements. What changes the pairs changes the keys in the same way.
 use Rattle.std.specs.Map.{keys_of}
-use Rattle.std.proofs.Common.{◌≡◌, ℕ, Bool, true, false, List, [], ◌∷◌, ◌++◌, drop, if◌then◌else◌, insert, take, refl, sym, ap, ◌∙◌}
-use Rattle.std.proofs.lemmas.List.{drop-map, map-append, take-map}
+use Rattle.std.proofs.Common.{◌≡◌, Bool, true, false, List, [], ◌∷◌, if◌then◌else◌, refl, sym, ap, ◌∙◌}
 use Rattle.vecmap_base.specs.{Items.put_item, Items.without_item, Pairs.put_key, Pairs.without_key}
 use Rattle.vecmap_laws.proofs.ItemRecursion.{put_item_cons, without_item_cons}
 use Rattle.vecmap_laws.proofs.Recursion.{put_key_cons, without_key_cons}
 pub use Rattle.vecmap_base.proofs.PairsLemmas.Distinct.{keys_of_remove}
-pub use Rattle.vecmap_base.proofs.PairsLemmas.Keys.{index_of_is, keys_of_put, keys_of_puts}
-
-module _ {K V : Type 0} where
-  pub keys_of_insert : (l : List (K × V)) (i : ℕ) (k : K) (v : V) → keys_of (insert l i (k, v)) ≡ insert (keys_of l) i k
-  keys_of_insert l i k v = map-append (λ p. p.0) (take i l) ((k, v) ∷ drop i l) ∙ sym (λ t. take-map (λ p. p.0) i l t ++ k ∷ drop-map (λ p. p.0) i l t)
+pub use Rattle.vecmap_base.proofs.PairsLemmas.Keys.{index_of_is, keys_of_insert, keys_of_put, keys_of_puts}
 
 module _ {K V : Type 0} (eq : K → K → Bool) where
   pub keys_of_put_key : (l : List (K × V)) (k : K) (v : V) → keys_of (put_key eq l k v) ≡ put_item eq (keys_of l) k

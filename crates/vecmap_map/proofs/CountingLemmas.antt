@@ -1,11 +1,11 @@
 -- The comparisons of insertions in order, where `before` of them were made before the first, `now` before that of the pair
 -- `p` into the list `m`, and `next` after it.
 use Rattle.std.specs.Map.{keys_of}
-use Rattle.std.proofs.Common.{◌≡◌, ◌∙◌, ◌++◌, ◌∷◌, ◌+◌, ◌*◌, ◌-◌, ◌≤◌, ℕ, zero, suc, [], Bool, List, ap, arith, length, refl}
-use Rattle.std.proofs.lemmas.List.{length_push, map-append}
+use Rattle.std.proofs.Common.{◌≡◌, ◌∙◌, ◌++◌, ◌∷◌, ◌+◌, ◌*◌, ◌≤◌, ℕ, [], Bool, List, ap, arith, length}
+use Rattle.std.proofs.lemmas.List.{map-append}
 use Rattle.vecmap_base.specs.{Comparisons.adds_cost, Comparisons.cost, Comparisons.search_cost, Pairs.puts}
 use Rattle.vecmap_base.proofs.PairsLemmas.{Keys.keys_of_puts, Puts.length_puts_at_most}
-use Rattle.vecmap_base.proofs.DuplicatesLemmas.{Comparisons.adds_cost_push, Cost.cost_more}
+use Rattle.vecmap_base.proofs.DuplicatesLemmas.{Comparisons.adds_cost_push, Cost.cost_after_push}
 
 module _ {K V : Type 0} (eq : K → K → Bool) (l pairs m : List (K × V)) (p : K × V) (before now next : ℕ) (done : m ≡ puts eq l pairs) where
   -- The insertion costs a search in what the list has become.
@@ -17,17 +17,4 @@ module _ {K V : Type 0} (eq : K → K → Bool) (l pairs m : List (K × V)) (p :
 
   -- It costs at most a comparison with each pair that was there before, and with each that came since.
   pub cost_push : now ≤ before + (length l * length pairs + cost (length pairs)) → next ≤ now + length m → next ≤ before + (length l * length (pairs ++ p ∷ []) + cost (length (pairs ++ p ∷ [])))
-  cost_push was more =
-      rw (length_push pairs p) (omega (arith, was, more, ap length done, length_puts_at_most eq l pairs, cost_more (length pairs)))
-
--- More insertions may cost more.
-cost_grows_by : (m k d n : ℕ) → n ≡ k + d → m * k + cost k ≤ m * n + cost n
-cost_grows_by m k zero n e =
-    let f : n ≡ k = omega arith in
-    rw f (omega arith)
-cost_grows_by m k (suc d) n e =
-    let f : n ≡ k + d + 1 = omega arith in
-    rw f (omega (arith, cost_more (k + d), cost_grows_by m k d (k + d) refl))
-
-pub cost_within : (m k n : ℕ) → k ≤ n → m * k + cost k ≤ m * n + cost n
-cost_within m k n h = cost_grows_by m k (n - k) n (omega (arith, h))
+  cost_push = cost_after_push (length l) (length m) pairs p before now next (omega (arith, ap length done, length_puts_at_most eq l pairs))

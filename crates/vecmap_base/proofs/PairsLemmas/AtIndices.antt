@@ -12,7 +12,7 @@ use Rattle.vecmap_base.proofs.MoveLemmas.{inserted_found}
 use Rattle.vecmap_base.proofs.PairsLemmas.ByIndex.{index_by_none, is_some_lookup_by, lookup_by_index, put_key_by_index, without_by_index}
 use Rattle.vecmap_base.proofs.PairsLemmas.Distinct.{distinct_keys_rearranged}
 use Rattle.vecmap_base.proofs.PairsLemmas.Indices.{is_some_index_of}
-use Rattle.vecmap_base.proofs.PairsLemmas.Keys.{keys_of_put}
+use Rattle.vecmap_base.proofs.PairsLemmas.Keys.{keys_of_insert, keys_of_put}
 use Rattle.vecmap_base.proofs.IndexLemmas.{slice_get_last}
 use Rattle.vecmap_base.proofs.PairsLemmas.Puts.{put_absent, put_stored}
 
@@ -330,9 +330,6 @@ module _ {K V : Type 0} (eq : K → K → Bool) where
     put_at_new : (i : ℕ) → lookup eq l k ≡ None → put_at eq l i k v ≡ insert l i (k, v)
     put_at_new i absent = ap (λ found. option_map_or (λ j. insert (remove l j) (min i (length l - 1)) (k, v)) found (insert l i (k, v))) (index_by_none (eq k) l absent)
 
-  keys_inserted : (l : List (K × V)) (i : ℕ) (k : K) (v : V) → keys_of (insert l i (k, v)) ≡ insert (keys_of l) i k
-  keys_inserted l i k v = map-append (λ p. p.0) (take i l) ((k, v) ∷ drop i l) ∙ (λ t. sym (take-map (λ p. p.0) i l) t ++ k ∷ sym (drop-map (λ p. p.0) i l) t)
-
   module _ (o : IsEquivalence eq) where
     index_inserted : (l : List (K × V)) (i : ℕ) (k : K) (v : V) → i ≤ length l → index_of eq l k ≡ None → index_of eq (insert l i (k, v)) k ≡ Some i
     index_inserted [] zero k v h absent = ap (λ b. if b then Some 0 else None) (o.refl k)
@@ -352,7 +349,7 @@ module _ {K V : Type 0} (eq : K → K → Bool) where
       index = λ absent. ap (λ n. index_of eq n k) (new absent) ∙ index_inserted l i k v h (index_by_none (eq k) l absent);
       pair = λ absent. ap (λ n. slice_get n i) (new absent) ∙ inserted_found l i (k, v) h;
       front = λ j absent less. ap (λ n. slice_get n j) (new absent) ∙ front_inserted l i j (k, v) h less;
-      keys = λ absent. ap keys_of (new absent) ∙ keys_inserted l i k v;
+      keys = λ absent. ap keys_of (new absent) ∙ keys_of_insert l i k v;
       len = ap length e ∙ length_put_at l k v i h;
     }
       where

@@ -27,7 +27,7 @@ module _ {K V : Type 0} (eq : K → K → Bool) where
   length_puts_at_most l [] = omega arith
   length_puts_at_most l (p ∷ ps) = omega (arith, length_puts_at_most (put eq l p.0 p.1) ps, length_put_at_most l p.0 p.1)
 
-  -- No insertion removes a pair, and after one the list has a pair.
+  -- No insertion removes a pair.
   length_put_at_least : (l : List (K × V)) (k : K) (v : V) → length l ≤ length (put eq l k v)
   length_put_at_least [] k v = omega arith
   length_put_at_least (p ∷ ps) k v = by (eq k p.0) (length_put_at_least ps k v)
@@ -36,17 +36,19 @@ module _ {K V : Type 0} (eq : K → K → Bool) where
       by true h = omega arith
       by false h = omega (arith, h)
 
-  put_not_empty : (l : List (K × V)) (k : K) (v : V) → 0 < length (put eq l k v)
-  put_not_empty [] k v = omega arith
-  put_not_empty (p ∷ ps) k v = omega (arith, length_put_at_least (p ∷ ps) k v)
+  -- After an insertion the list has a pair.
+  pub put_some : (l : List (K × V)) (k : K) (v : V) → 0 < length (put eq l k v)
+  put_some [] k v = omega arith
+  put_some (p ∷ ps) k v = omega (arith, length_put_at_least (p ∷ ps) k v)
 
-  length_puts_at_least : (l ps : List (K × V)) → length l ≤ length (puts eq l ps)
-  length_puts_at_least l [] = omega arith
-  length_puts_at_least l (p ∷ ps) = omega (arith, length_puts_at_least (put eq l p.0 p.1) ps, length_put_at_least l p.0 p.1)
+  -- After insertions the list is at least as long as before.
+  pub length_puts_least : (l ps : List (K × V)) → length l ≤ length (puts eq l ps)
+  length_puts_least l [] = omega arith
+  length_puts_least l (p ∷ ps) = omega (arith, length_puts_least (put eq l p.0 p.1) ps, length_put_at_least l p.0 p.1)
 
   pub puts_not_empty : (l ps : List (K × V)) → 0 < length ps → 0 < length (puts eq l ps)
   puts_not_empty l [] h = absurd (omega (arith, h))
-  puts_not_empty l (p ∷ ps) h = omega (arith, length_puts_at_least (put eq l p.0 p.1) ps, put_not_empty l p.0 p.1)
+  puts_not_empty l (p ∷ ps) h = omega (arith, length_puts_least (put eq l p.0 p.1) ps, put_some l p.0 p.1)
 
   -- The insertion of the stored value, or of `v` if there is none, leaves the list or appends the pair.
   pub put_stored : (l : List (K × V)) (k : K) (v : V) → put eq l k (unwrap_or (lookup eq l k) v) ≡ option_map_or (λ i. l) (index_of eq l k) (l ++ (k, v) ∷ [])

@@ -3,8 +3,8 @@ use Rattle.std.specs.Map.{keys_of}
 use Rattle.std.proofs.Common.{arith, inr, length, rules, subst, ◌≡◌, ◌+◌, ◌++◌, ◌∷◌, []}
 use Rattle.std.proofs.lemmas.{Grind.common_steps, List.length_push, Result.err_from_is_err_and}
 use Rattle.vecmap_base.specs.Comparisons.{adds_cost}
-use Rattle.vecmap_base.proofs.PairsLemmas.{Puts.length_put_at_most}
-use Rattle.vecmap_map.proofs.CountingLemmas.{cost_push, cost_within, counted_push}
+use Rattle.vecmap_base.proofs.{DuplicatesLemmas.Cost.cost_within, PairsLemmas.Puts.length_put_at_most}
+use Rattle.vecmap_map.proofs.CountingLemmas.{cost_push, counted_push}
 use Rattle.vecmap_map.proofs.VecMap.extend_counted.Goals as goal
 
 pub loop-key-preserved-in_ok-insert_counted : goal.loop-key-preserved-in_ok-insert_counted

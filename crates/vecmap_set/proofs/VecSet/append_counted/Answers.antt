@@ -1,6 +1,6 @@
-use Rattle.std.proofs.lemmas.{Grind.common_steps, List.length_push}
-use Rattle.std.proofs.Common.{arith, length}
-use Rattle.vecmap_base.proofs.DuplicatesLemmas.Cost.{cost_more}
+use Rattle.std.proofs.lemmas.Grind.{common_steps}
+use Rattle.std.proofs.Common.{arith}
+use Rattle.vecmap_base.proofs.DuplicatesLemmas.Cost.{cost_after_push}
 use Rattle.vecmap_set.proofs.VecSet.append_counted.Goals as goal
 
 pub loop-item-preserved : goal.loop-item-preserved
@@ -12,7 +12,7 @@ loop-item-preserved g c = record {
   capacity = grind (arith, common_steps);
   stays = grind (arith, common_steps);
   few = grind (arith, common_steps);
-  at_most = rw (length_push c.loop-item.yielded c.in-Some.item) (omega (arith, c.loop-item.invariant.at_most, c.loop-item.invariant.few, c.insert_counted.ensures.at_most, cost_more (length c.loop-item.yielded)));
+  at_most = cost_after_push _ _ c.loop-item.yielded c.in-Some.item _ _ _ c.loop-item.invariant.few c.loop-item.invariant.at_most c.insert_counted.ensures.at_most;
 }
 
 pub returns-clause-elements : goal.returns-clause-elements
