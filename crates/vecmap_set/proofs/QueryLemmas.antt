@@ -1,7 +1,7 @@
 -- What queries find after a change of a list, in the words of contracts.
 use Rattle.std.specs.{Borrow.Bor, List.list_any, List.Sorted.IsPermutation}
 use Rattle.std.specs.Prelude.{IfSome, option_copied}
-use Rattle.std.proofs.Common.{◌≡◌, ◌∙◌, ◌++◌, ◌<◌, ◌≤◌, ◌||◌, ℕ, suc, Bool, true, false, IsTrue, List, [], ◌∷◌, None, Option, Some, ap, arith, cond, if◌then◌else◌, length, position, refl, remove, reverse, slice_get, subst, swap, sym}
+use Rattle.std.proofs.Common.{◌≡◌, ◌∙◌, ◌++◌, ◌<◌, ◌||◌, ℕ, Bool, true, false, IsTrue, List, [], ◌∷◌, None, Option, Some, ap, cond, if◌then◌else◌, length, position, refl, remove, reverse, slice_get, subst, swap, sym}
 use Rattle.std.proofs.lemmas.List.Folds.{list_any-append}
 use Rattle.std.proofs.lemmas.List.Sorted.{IsPermutation-remove, IsPermutation-reverse, IsPermutation-swap, IsPermutation-swap_remove, length_permutation, list_any-IsPermutation}
 use Rattle.std.proofs.lemmas.Option.{get_or_from_slice_get, none-some, slice_get_within}

@@ -3,16 +3,19 @@
 //! Each call is like the call of its name without `_counted`, and adds its comparisons to a [`Counter`]. A counter has
 //! no size and no code: it is for contracts alone. A search of many small elements compares blocks of them. So `few` is
 //! exact for few elements, `miss` if nothing matches, and `at_most` and `near` are bounds for all sets.
-ghost use Rattle.std.specs.Prelude.{◌≡◌, ◌+◌, ◌*◌, ◌<◌, ◌≤◌, [], IfErr, IfOk, IfSome, IsOk, None, OnErr, OnOk, false, is_some, length, not, option_copied, position};
+ghost use Rattle.std.specs.Prelude.{◌≡◌, ◌↔◌, ◌+◌, ◌*◌, ◌<◌, ◌≤◌, ℕ, [], IfErr, IfOk, IfSome, IsOk, IsTrue, List, None, OnErr, OnOk, false, is_some, length, not, option_copied, position};
+ghost use Rattle.std.specs.Iterator.{Drains, ExtendsWithItems, IsFiniteIterable};
 ghost use Rattle.std.specs.List.{IsDistinct, list_any};
 ghost use Rattle.std.specs.Set.{is_member};
-ghost use Rattle.vecmap_base.specs.Equality.{is_within};
-ghost use Rattle.vecmap_base.specs.Items.{add, adds, stored_first, without_first};
+ghost use Rattle.vecmap_base.specs.Bulk.{HasRoomForAll};
 ghost use Rattle.vecmap_base.specs.Comparisons.{cost, search_cost, search_cost_by};
+ghost use Rattle.vecmap_base.specs.Equality.{is_within};
+ghost use Rattle.vecmap_base.specs.Items.{add, adds, both, stored_first, without_first};
 ghost use Rattle.vecmap_set.specs.Contents.{HasRoom, KeepsRoom, Refuses, with_elements};
+ghost use Rattle.vecmap_set.specs.SetBulk.{Adds, Extends, RefusesAfter};
 
 use crate::VecSet;
-use std::alloc::AllocError;
+use std::alloc::{AllocError, Global};
 use std::sync::ledger::Ledger;
 use vecmap_base::{
     Counter, Equivalent, Refused, contains_equivalent_counted, find_item_equivalent_counted,
@@ -218,6 +221,48 @@ impl<T: Eq> VecSet<T> {
         }
     }
 
+    /// Like [`VecSet::from_iter`], but counts its comparisons.
+    ///
+    /// If a proof knows how many elements the iterator may yield, it knows a bound (`at_most`).
+    ///
+    /// # Preconditions
+    ///
+    /// The iterator ends.
+    ///
+    /// # Complexity
+    ///
+    /// One lookup for each element, so at most n(n-1)/2 comparisons for n elements.
+    ///
+    /// # Examples
+    ///
+    /// ```
+    /// let mut counter: Counter<Brand> = Counter::open(Blank::new(1));
+    /// let set = VecSet::from_iter_counted(alloc, [2, 1, 2], &mut counter)?;
+    /// // Now the counter is 2.
+    /// set.as_slice() // [2, 1]
+    /// ```
+    pub fn from_iter_counted<I: IntoIterator<Item = T>, L: Ledger>(
+        alloc: Global,
+        iter: I,
+        counter: &mut Counter<L>,
+    ) -> Result<VecSet<T>, AllocError>
+    where
+        T: Drop,
+        requires ends { IsFiniteIterable I.into_iter_gives I.IntoIter.can_next I.IntoIter.remaining
+            iter }
+        ensures elements { IfOk result (λ set. (it : I.IntoIter) × (items : List T)
+            × I.into_iter_gives iter it × Drains I.IntoIter.next_gives it items
+            × (set.elements ≡ adds T.eq [] items)) }
+        ensures distinct { IfOk result (λ set. IsDistinct T.eq set.elements) }
+        ensures at_most { (n : ℕ)
+            → HasRoomForAll I.into_iter_gives I.IntoIter.remaining iter (λ left. left ≤ n)
+            → counter.new ≤ counter.old + cost n }
+    {
+        let mut set = VecSet::new(alloc);
+        set.extend_counted(iter, counter)?;
+        Ok(set)
+    }
+
     /// Like [`VecSet::append`], but counts its comparisons.
     ///
     /// # Complexity
@@ -266,12 +311,95 @@ impl<T: Eq> VecSet<T> {
         Ok(())
     }
 
+    /// Like [`VecSet::extend`], but counts its comparisons.
+    ///
+    /// If a proof knows how many elements the iterator may yield, it knows a bound (`at_most`).
+    ///
+    /// # Preconditions
+    ///
+    /// The iterator ends.
+    ///
+    /// # Complexity
+    ///
+    /// One lookup for each element, so at most m n + n(n-1)/2 comparisons for n elements and m elements in this set.
+    ///
+    /// # Examples
+    ///
+    /// ```
+    /// let mut set = vecset!(alloc; 1, 2);
+    /// let mut counter: Counter<Brand> = Counter::open(Blank::new(1));
+    /// set.extend_counted([2, 3], &mut counter)?;
+    /// // Now the counter is 4.
+    /// set.as_slice() // [1, 2, 3]
+    /// ```
+    pub fn extend_counted<I: IntoIterator<Item = T>, L: Ledger>(
+        &mut self,
+        iter: I,
+        counter: &mut Counter<L>,
+    ) -> Result<(), AllocError>
+    where
+        T: Drop,
+        requires ends { IsFiniteIterable I.into_iter_gives I.IntoIter.can_next I.IntoIter.remaining
+            iter }
+        ensures ran { ExtendsWithItems I.into_iter_gives I.IntoIter.next_gives
+            (Adds T.eq) iter self.old self.new result }
+        ensures distinct { IsDistinct T.eq self.new.elements }
+        ensures succeeds { HasRoomForAll I.into_iter_gives I.IntoIter.remaining iter
+            (HasRoom self.old) → IsOk result }
+        ensures extended { Extends I.into_iter_gives I.IntoIter.next_gives I.IntoIter.remaining
+            (RefusesAfter T.eq) iter self.old result self.new }
+        ensures at_most { (n : ℕ)
+            → HasRoomForAll I.into_iter_gives I.IntoIter.remaining iter (λ left. left ≤ n)
+            → counter.new ≤ counter.old + (length self.old.elements * n + cost n) }
+    {
+        // As in `VecSet::extend`.
+        let _ = &self.items;
+        for item in iter {
+            self.insert_counted(item, counter)?;
+        }
+        Ok(())
+    }
+
+    /// Like [`VecSet::is_disjoint`], but counts its comparisons.
+    ///
+    /// # Complexity
+    ///
+    /// At most as many comparisons as the product of the lengths. The elements of the shorter set are looked up in the
+    /// other, up to the first that is found.
+    ///
+    /// # Examples
+    ///
+    /// ```
+    /// let set = vecset!(alloc; 1, 2);
+    /// let mut counter: Counter<Brand> = Counter::open(Blank::new(1));
+    /// set.is_disjoint_counted(&vecset!(alloc; 3, 4), &mut counter) // true
+    /// // Now the counter is 4.
+    /// ```
+    #[tactic(auto, using(vecmap_base::proofs::EqualityLemmas::Relations::apart_by_walk, vecmap_base::proofs::EqualityLemmas::Relations::apart_by_walk_turned))]
+    pub fn is_disjoint_counted<L: Ledger>(
+        &self,
+        other: &VecSet<T>,
+        counter: &mut Counter<L>,
+    ) -> bool
+        ensures value { IsTrue result ↔ (both T.eq self.now.elements other.now.elements ≡ []) }
+        ensures at_most { counter.new
+            ≤ counter.old + length self.now.elements * length other.now.elements }
+    {
+        if self.len() <= other.len() {
+            !overlap_counted(&self.items, &other.items, counter)
+        } else {
+            !overlap_counted(&other.items, &self.items, counter)
+        }
+    }
+
     /// Like [`VecSet::is_subset`], but counts its comparisons.
     ///
     /// # Complexity
     ///
     /// No comparisons if this set is longer. Otherwise each element is looked up in `other`, up to the first that is
-    /// not found: at most as many comparisons as the product of the lengths.
+    /// not found: at most as many comparisons as the product of the lengths. If `other` has four to seven elements, of
+    /// at most 8 bytes each, this call compares the first four of them as one block, and [`VecSet::is_subset`] compares
+    /// them one by one. So a lookup here makes up to three comparisons more.
     ///
     /// # Examples
     ///
@@ -298,4 +426,43 @@ impl<T: Eq> VecSet<T> {
         }
         true
     }
+
+    /// Like [`VecSet::is_superset`], but counts its comparisons.
+    ///
+    /// # Complexity
+    ///
+    /// No comparisons if this set is shorter. Otherwise as many as `other.is_subset_counted(self, counter)`.
+    ///
+    /// # Examples
+    ///
+    /// ```
+    /// let set = vecset!(alloc; 1, 2);
+    /// let mut counter: Counter<Brand> = Counter::open(Blank::new(1));
+    /// set.is_superset_counted(&vecset!(alloc; 2), &mut counter) // true
+    /// // Now the counter is 2.
+    /// ```
+    pub fn is_superset_counted<L: Ledger>(
+        &self,
+        other: &VecSet<T>,
+        counter: &mut Counter<L>,
+    ) -> bool
+        ensures value { result ≡ is_within T.eq other.now.elements self.now.elements }
+        ensures at_most { counter.new
+            ≤ counter.old + length other.now.elements * length self.now.elements }
+    {
+        other.is_subset_counted(self, counter)
+    }
+}
+
+// Returns `true` if one of `items` is equal to one of `others`.
+fn overlap_counted<T: Eq, L: Ledger>(items: &[T], others: &[T], counter: &mut Counter<L>) -> bool
+    ensures value { result ≡ list_any (is_member T.eq others.now) items.now }
+    ensures at_most { counter.new ≤ counter.old + length items.now * length others.now }
+{
+    for item in items {
+        if contains_equivalent_counted(others, item, counter) {
+            return true;
+        }
+    }
+    false
 }

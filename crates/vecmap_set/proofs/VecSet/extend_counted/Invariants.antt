@@ -1,0 +1,18 @@
+use Rattle.std.proofs.Common.{◌≡◌, ◌+◌, ◌*◌, ◌≤◌, length}
+use Rattle.std.specs.List.{IsDistinct}
+use Rattle.vecmap_base.specs.{Comparisons.cost, Items.adds}
+use Rattle.vecmap_set.proofs.VecSet.extend_counted.Given as goal
+
+abbrev pub invariant-loop-item : goal.invariant-loop-item
+invariant-loop-item g l = record {
+  can : (goal.iterator-loop-item g).can_next l.item-iterator;
+  finite : (goal.iterator-loop-item g).is_finite l.item-iterator;
+  elements : l.self.elements ≡ adds g.T.PartialEq.eq l.fn.self.elements l.yielded;
+  distinct : IsDistinct g.T.PartialEq.eq l.self.elements;
+  capacity : l.fn.self.capacity ≤ l.self.capacity;
+  room : length l.self.elements + (goal.iterator-loop-item g).remaining l.item-iterator ≤ length l.fn.self.elements + (goal.iterator-loop-item g).remaining l.initial.item-iterator;
+  stays : length l.fn.self.elements + (goal.iterator-loop-item g).remaining l.initial.item-iterator ≤ l.fn.self.capacity → l.self.capacity ≡ l.fn.self.capacity;
+  few : length l.self.elements ≤ length l.fn.self.elements + length l.yielded;
+  left : length l.yielded + (goal.iterator-loop-item g).remaining l.item-iterator ≤ (goal.iterator-loop-item g).remaining l.initial.item-iterator;
+  at_most : l.counter ≤ l.fn.counter + (length l.fn.self.elements * length l.yielded + cost (length l.yielded));
+}
