@@ -2,8 +2,8 @@
 ghost use Rattle.std.specs.Prelude.{◌≡◌, ◌+◌, ◌*◌, ◌≤◌, [], IfOk, OnOk, is_some, length, nat_eq, take};
 ghost use Rattle.std.specs.List.{count_by};
 ghost use Rattle.std.specs.Map.{keys_of};
-ghost use Rattle.vecmap.specs.Pairs.{index_of, puts};
 ghost use Rattle.vecmap.specs.Comparisons.{comparisons, cost};
+ghost use Rattle.vecmap.specs.Pairs.{index_of, puts};
 
 use std::alloc::{AllocError, Global};
 use std::sync::ledger::Ledger;
