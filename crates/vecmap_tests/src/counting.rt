@@ -98,6 +98,52 @@ fn counted_calls_of_a_set_return_and_leave_what_the_others_do(rt: HostRuntime) -
     )
 }
 
+/// Prints the set that the calls of many elements leave.
+fn calls_of_many_elements<L: Ledger>(alloc: Global, blank: Blank) -> Result<String, Fail>
+    requires same_name { blank.name ≡ L.name }
+    requires same_parts { blank.parts ≡ L.parts }
+    requires one_part { blank.parts ≡ 1 }
+{
+    let mut counter: Counter<L> = Counter::open(blank);
+    let mut set = VecSet::from_iter_counted(alloc, [2, 1, 2], &mut counter)?;
+    set.extend_counted([3, 1], &mut counter)?;
+    Ok(format!(in alloc; "{set:?}")?)
+}
+
+#[test]
+fn counted_calls_of_many_elements_leave_what_the_others_do(rt: HostRuntime) -> Result<(), Fail> {
+    let printed = calls_of_many_elements::<Brand>(rt.alloc(), Blank::new(1));
+    assert_prints(&rt, printed, "{2, 1, 3}")
+}
+
+/// Prints what the relations of a set return, to a part of it and to a longer set of other elements.
+fn calls_of_two_sets<L: Ledger>(alloc: Global, blank: Blank) -> Result<String, Fail>
+    requires same_name { blank.name ≡ L.name }
+    requires same_parts { blank.parts ≡ L.parts }
+    requires one_part { blank.parts ≡ 1 }
+{
+    let mut counter: Counter<L> = Counter::open(blank);
+    let set = vecset!(alloc; 3, 1, 2);
+    let (part, other) = (vecset!(alloc; 2, 3), vecset!(alloc; 4, 5, 6, 7));
+    let is_disjoint = (
+        set.is_disjoint_counted(&part, &mut counter),
+        set.is_disjoint_counted(&other, &mut counter),
+        other.is_disjoint_counted(&set, &mut counter),
+    );
+    let is_superset = (
+        set.is_superset_counted(&part, &mut counter),
+        part.is_superset_counted(&set, &mut counter),
+        other.is_superset_counted(&set, &mut counter),
+    );
+    Ok(format!(in alloc; "{is_disjoint:?} {is_superset:?}")?)
+}
+
+#[test]
+fn counted_calls_of_two_sets_return_what_the_others_do(rt: HostRuntime) -> Result<(), Fail> {
+    let printed = calls_of_two_sets::<Brand>(rt.alloc(), Blank::new(1));
+    assert_prints(&rt, printed, "(false, true, true) (true, false, false)")
+}
+
 /// Returns how often a lookup of each of these numbers compares, in a map of the numbers below 3.
 fn comparisons_of_lookups<L: Ledger>(alloc: Global, blank: Blank) -> Result<[u32; 4], AllocError>
     requires same_name { blank.name ≡ L.name }
@@ -133,4 +179,74 @@ fn comparisons_of_lookups<L: Ledger>(alloc: Global, blank: Blank) -> Result<[u32
 fn a_counted_lookup_compares_up_to_the_match(rt: HostRuntime) {
     let made = comparisons_of_lookups::<Brand>(rt.alloc(), Blank::new(1));
     assert_gives(&rt, made, [1, 2, 3, 3]);
+}
+
+/// Creates a vector of numbers that count their comparisons.
+fn counted_numbers<'a>(
+    alloc: Global,
+    numbers: &[u32],
+    comparisons: &'a Cell<u32>,
+) -> Result<Vec<Counted<'a>>, AllocError> {
+    let mut counted = Vec::new(alloc);
+    for number in numbers {
+        counted.push(Counted {
+            number: *number,
+            comparisons,
+        })?;
+    }
+    Ok(counted)
+}
+
+/// Returns how often a set of 0, 1, 0 and 2 compares when it is created, and when 1 and 3 are added.
+fn comparisons_of_many_elements<L: Ledger>(
+    alloc: Global,
+    blank: Blank,
+) -> Result<[u32; 2], AllocError>
+    requires same_name { blank.name ≡ L.name }
+    requires same_parts { blank.parts ≡ L.parts }
+    requires one_part { blank.parts ≡ 1 }
+{
+    let mut counter: Counter<L> = Counter::open(blank);
+    let comparisons = &Cell::new(0);
+    let numbers = counted_numbers(alloc, &[0, 1, 0, 2], comparisons)?;
+    let mut set = VecSet::from_iter_counted(alloc, numbers, &mut counter)?;
+    let created = comparisons.get();
+    comparisons.set(0);
+    let numbers = counted_numbers(alloc, &[1, 3], comparisons)?;
+    set.extend_counted(numbers, &mut counter)?;
+    Ok([created, comparisons.get()])
+}
+
+#[test]
+fn each_of_many_counted_elements_is_looked_up_once(rt: HostRuntime) {
+    let made = comparisons_of_many_elements::<Brand>(rt.alloc(), Blank::new(1));
+    assert_gives(&rt, made, [4, 5]);
+}
+
+/// Returns how often the calls of two sets compare: the numbers below 4, and 3 and 5.
+fn comparisons_of_two_sets<L: Ledger>(alloc: Global, blank: Blank) -> Result<[u32; 4], AllocError>
+    requires same_name { blank.name ≡ L.name }
+    requires same_parts { blank.parts ≡ L.parts }
+    requires one_part { blank.parts ≡ 1 }
+{
+    let mut counter: Counter<L> = Counter::open(blank);
+    let comparisons = &Cell::new(0);
+    let set = VecSet::from_iter(alloc, counted_numbers(alloc, &[0, 1, 2, 3], comparisons)?)?;
+    let other = VecSet::from_iter(alloc, counted_numbers(alloc, &[3, 5], comparisons)?)?;
+    comparisons.set(0);
+    let _is_superset = set.is_superset_counted(&other, &mut counter);
+    let superset = comparisons.get();
+    let _is_subset = set.is_subset_counted(&other, &mut counter);
+    let both = comparisons.get();
+    comparisons.set(0);
+    let _is_disjoint = set.is_disjoint_counted(&other, &mut counter);
+    let disjoint = comparisons.get();
+    let _is_disjoint = other.is_disjoint_counted(&set, &mut counter);
+    Ok([superset, both, disjoint, comparisons.get()])
+}
+
+#[test]
+fn counted_calls_of_two_sets_look_up_the_elements_of_the_shorter_one(rt: HostRuntime) {
+    let made = comparisons_of_two_sets::<Brand>(rt.alloc(), Blank::new(1));
+    assert_gives(&rt, made, [8, 8, 4, 8]);
 }

@@ -7,7 +7,7 @@ use std::marker::Brand;
 use std::process::Abort;
 use std::sync::ledger::{Blank, Ledger};
 use std::test::Fail;
-use vecmap::{Counter, VecMap};
+use vecmap::{Counter, VecMap, VecSet};
 use vecmap_trees::Json;
 
 /// Runs what prints a text. It prints `expected`, or, if an allocation fails, `left` or nothing. Then it is run again.
@@ -122,4 +122,26 @@ fn a_refused_counted_insertion_leaves_the_map(rt: HostRuntime) -> Result<(), Fai
     let expected = "None {'a': 1, 'b': 2}";
     let left = "refused ('b', 2) {'a': 1}";
     assert_printed(&rt, print_counted_insertion, expected, left)
+}
+
+/// Prints whether a counted extension of a full set succeeds, and the set.
+fn print_extension<L: Ledger>(alloc: Global, blank: Blank) -> Result<String, AllocError>
+    requires same_name { blank.name ≡ L.name }
+    requires same_parts { blank.parts ≡ L.parts }
+    requires one_part { blank.parts ≡ 1 }
+{
+    let mut counter: Counter<L> = Counter::open(blank);
+    let mut set = VecSet::with_capacity(alloc, 1)?;
+    set.insert(1)?;
+    let is_extended = set.extend_counted([1, 2], &mut counter).is_ok();
+    format!(in alloc; "{is_extended} {set:?}")
+}
+
+fn print_counted_extension(alloc: Global) -> Result<String, AllocError> {
+    print_extension::<Brand>(alloc, Blank::new(1))
+}
+
+#[test]
+fn a_refused_counted_extension_leaves_the_set(rt: HostRuntime) -> Result<(), Fail> {
+    assert_printed(&rt, print_counted_extension, "true {1, 2}", "false {1}")
 }
