@@ -1,10 +1,8 @@
-//! Calls that count their comparisons. Their counters are for contracts alone, so a test has its own count.
+//! Calls that count their comparisons return and leave what the others do.
 ghost use Rattle.std.specs.Prelude.{◌≡◌};
 
-use crate::checks::{assert_gives, assert_prints};
-use crate::counted::Counted;
-use std::alloc::{AllocError, Global};
-use std::cell::Cell;
+use crate::checks::assert_prints;
+use std::alloc::Global;
 use std::marker::Brand;
 use std::sync::ledger::{Blank, Ledger};
 use std::test::Fail;
@@ -142,111 +140,4 @@ fn calls_of_two_sets<L: Ledger>(alloc: Global, blank: Blank) -> Result<String, F
 fn counted_calls_of_two_sets_return_what_the_others_do(rt: HostRuntime) -> Result<(), Fail> {
     let printed = calls_of_two_sets::<Brand>(rt.alloc(), Blank::new(1));
     assert_prints(&rt, printed, "(false, true, true) (true, false, false)")
-}
-
-/// Returns how often a lookup of each of these numbers compares, in a map of the numbers below 3.
-fn comparisons_of_lookups<L: Ledger>(alloc: Global, blank: Blank) -> Result<[u32; 4], AllocError>
-    requires same_name { blank.name ≡ L.name }
-    requires same_parts { blank.parts ≡ L.parts }
-    requires one_part { blank.parts ≡ 1 }
-{
-    let mut counter: Counter<L> = Counter::open(blank);
-    let comparisons = &Cell::new(0);
-    let mut map = VecMap::new(alloc);
-    for number in 0..3 {
-        map.insert(
-            Counted {
-                number,
-                comparisons,
-            },
-            number,
-        )?;
-    }
-    let mut made = [0; 4];
-    for number in 0..4 {
-        comparisons.set(0);
-        let query = Counted {
-            number,
-            comparisons,
-        };
-        let _value = map.get_counted(&query, &mut counter);
-        made[number as usize] = comparisons.get();
-    }
-    Ok(made)
-}
-
-#[test]
-fn a_counted_lookup_compares_up_to_the_match(rt: HostRuntime) {
-    let made = comparisons_of_lookups::<Brand>(rt.alloc(), Blank::new(1));
-    assert_gives(&rt, made, [1, 2, 3, 3]);
-}
-
-/// Creates a vector of numbers that count their comparisons.
-fn counted_numbers<'a>(
-    alloc: Global,
-    numbers: &[u32],
-    comparisons: &'a Cell<u32>,
-) -> Result<Vec<Counted<'a>>, AllocError> {
-    let mut counted = Vec::new(alloc);
-    for number in numbers {
-        counted.push(Counted {
-            number: *number,
-            comparisons,
-        })?;
-    }
-    Ok(counted)
-}
-
-/// Returns how often a set of 0, 1, 0 and 2 compares when it is created, and when 1 and 3 are added.
-fn comparisons_of_many_elements<L: Ledger>(
-    alloc: Global,
-    blank: Blank,
-) -> Result<[u32; 2], AllocError>
-    requires same_name { blank.name ≡ L.name }
-    requires same_parts { blank.parts ≡ L.parts }
-    requires one_part { blank.parts ≡ 1 }
-{
-    let mut counter: Counter<L> = Counter::open(blank);
-    let comparisons = &Cell::new(0);
-    let numbers = counted_numbers(alloc, &[0, 1, 0, 2], comparisons)?;
-    let mut set = VecSet::from_iter_counted(alloc, numbers, &mut counter)?;
-    let created = comparisons.get();
-    comparisons.set(0);
-    let numbers = counted_numbers(alloc, &[1, 3], comparisons)?;
-    set.extend_counted(numbers, &mut counter)?;
-    Ok([created, comparisons.get()])
-}
-
-#[test]
-fn each_of_many_counted_elements_is_looked_up_once(rt: HostRuntime) {
-    let made = comparisons_of_many_elements::<Brand>(rt.alloc(), Blank::new(1));
-    assert_gives(&rt, made, [4, 5]);
-}
-
-/// Returns how often the calls of two sets compare: the numbers below 4, and 3 and 5.
-fn comparisons_of_two_sets<L: Ledger>(alloc: Global, blank: Blank) -> Result<[u32; 4], AllocError>
-    requires same_name { blank.name ≡ L.name }
-    requires same_parts { blank.parts ≡ L.parts }
-    requires one_part { blank.parts ≡ 1 }
-{
-    let mut counter: Counter<L> = Counter::open(blank);
-    let comparisons = &Cell::new(0);
-    let set = VecSet::from_iter(alloc, counted_numbers(alloc, &[0, 1, 2, 3], comparisons)?)?;
-    let other = VecSet::from_iter(alloc, counted_numbers(alloc, &[3, 5], comparisons)?)?;
-    comparisons.set(0);
-    let _is_superset = set.is_superset_counted(&other, &mut counter);
-    let superset = comparisons.get();
-    let _is_subset = set.is_subset_counted(&other, &mut counter);
-    let both = comparisons.get();
-    comparisons.set(0);
-    let _is_disjoint = set.is_disjoint_counted(&other, &mut counter);
-    let disjoint = comparisons.get();
-    let _is_disjoint = other.is_disjoint_counted(&set, &mut counter);
-    Ok([superset, both, disjoint, comparisons.get()])
-}
-
-#[test]
-fn counted_calls_of_two_sets_look_up_the_elements_of_the_shorter_one(rt: HostRuntime) {
-    let made = comparisons_of_two_sets::<Brand>(rt.alloc(), Blank::new(1));
-    assert_gives(&rt, made, [8, 8, 4, 8]);
 }

@@ -7,6 +7,8 @@
 mod checks;
 #[cfg(test)]
 mod clones;
+#[cfg(test)]
+mod comparisons;
 pub mod conditions;
 #[cfg(test)]
 mod counted;
