@@ -11,6 +11,7 @@ pub mod order;
 pub mod parts;
 pub mod removal;
 pub mod removal_at;
+pub mod room;
 pub mod search;
 pub mod sorts;
 pub mod swap_removal;

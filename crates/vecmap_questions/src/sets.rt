@@ -7,5 +7,6 @@ pub mod operators;
 pub mod order;
 pub mod parts;
 pub mod removal;
+pub mod room;
 pub mod sorts;
 pub mod swap_removal;

@@ -1,10 +1,10 @@
 //! Insertions through an entry.
-ghost use Rattle.std.specs.Prelude.{◌≡◌, ◌+◌, ◌-◌, ◌++◌, ◌∷◌, ◌<◌, ◌≤◌, ℕ, [], IsSome, None, OnOk, Some, if◌then◌else◌, is_some, length, nat_eq, slice_get, true, unwrap_or};
+ghost use Rattle.std.specs.Prelude.{◌≡◌, ◌+◌, ◌-◌, ◌++◌, ◌∷◌, ◌<◌, ◌≤◌, ℕ, [], IfErr, IfOk, IsSome, None, OnErr, OnOk, Some, if◌then◌else◌, is_some, length, nat_eq, slice_get, true, unwrap_or};
 ghost use Rattle.std.specs.Map.{keys_of};
 ghost use Rattle.vecmap.specs.Pairs.{HasDistinctKeys, index_of, index_or_length, lookup};
 
 use std::alloc::AllocError;
-use vecmap::VecMap;
+use vecmap::{Refused, VecMap};
 
 pub fn or_insert_then(map: &mut VecMap<u32, u32>, key: u32, value: u32) -> Result<(), AllocError>
     ensures key { OnOk result (lookup nat_eq map.new.entries key ≡ Some (unwrap_or (lookup nat_eq
@@ -45,6 +45,19 @@ pub fn or_insert_then_if_distinct(
 {
     map.entry(key).or_insert(value)?;
     Ok(())
+}
+
+pub fn or_insert_then_result(
+    map: &mut VecMap<u32, u32>,
+    key: u32,
+    value: u32,
+) -> Result<u32, Refused<(u32, u32)>>
+    ensures result { IfOk result (λ stored. stored ≡ unwrap_or (lookup nat_eq map.old.entries key)
+        value) }
+    ensures refused { IfErr result (λ refused. refused.given ≡ (key, value)) }
+{
+    let stored = map.entry(key).or_insert(value)?;
+    Ok(*stored)
 }
 
 pub fn or_insert_then_generic<K: Eq + Drop>(
@@ -150,6 +163,19 @@ pub fn or_insert_with_then_if_distinct(
     Ok(())
 }
 
+pub fn or_insert_with_then_result(
+    map: &mut VecMap<u32, u32>,
+    key: u32,
+    value: u32,
+) -> Result<u32, Refused<(u32, u32)>>
+    ensures result { IfOk result (λ stored. stored ≡ unwrap_or (lookup nat_eq map.old.entries key)
+        value) }
+    ensures refused { IfErr result (λ refused. refused.given ≡ (key, value)) }
+{
+    let stored = map.entry(key).or_insert_with(|| value)?;
+    Ok(*stored)
+}
+
 pub fn or_insert_with_key_then(map: &mut VecMap<u32, u32>, key: u32) -> Result<(), AllocError>
     ensures key { OnOk result (lookup nat_eq map.new.entries key ≡ Some (unwrap_or (lookup nat_eq
         map.old.entries key) key)) }
@@ -196,6 +222,18 @@ pub fn or_default_then_if_distinct(map: &mut VecMap<u32, u32>, key: u32) -> Resu
 {
     map.entry(key).or_default()?;
     Ok(())
+}
+
+pub fn or_default_then_result(
+    map: &mut VecMap<u32, u32>,
+    key: u32,
+) -> Result<u32, Refused<(u32, u32)>>
+    ensures result { IfOk result (λ stored. stored ≡ unwrap_or (lookup nat_eq map.old.entries key)
+        0) }
+    ensures refused { IfErr result (λ refused. refused.given ≡ (key, 0)) }
+{
+    let stored = map.entry(key).or_default()?;
+    Ok(*stored)
 }
 
 pub fn and_modify_or_insert_then(
@@ -248,4 +286,31 @@ pub fn insert_entry_then(map: &mut VecMap<u32, u32>, key: u32, value: u32) -> Re
 {
     map.entry(key).insert_entry(value)?;
     Ok(())
+}
+
+pub fn insert_entry_then_result(
+    map: &mut VecMap<u32, u32>,
+    key: u32,
+    value: u32,
+) -> Result<u32, Refused<(u32, u32)>>
+    ensures result { IfOk result (λ stored. stored ≡ value) }
+    ensures refused { IfErr result (λ refused. refused.given ≡ (key, value)) }
+    ensures present { OnErr result (lookup nat_eq map.old.entries key ≡ None) }
+    ensures capacity { OnErr result (length map.old.entries ≡ map.old.capacity) }
+    ensures unchanged { OnErr result (map.new ≡ map.old) }
+{
+    let entry = map.entry(key).insert_entry(value)?;
+    Ok(*entry.get())
+}
+
+pub fn entry_then(map: &mut VecMap<u32, u32>, key: u32) -> u32
+    ensures result { result ≡ key }
+{
+    *map.entry(key).key()
+}
+
+pub fn entry_index_then(map: &mut VecMap<u32, u32>, key: u32) -> usize
+    ensures result { result ≡ index_or_length nat_eq map.old.entries key }
+{
+    map.entry(key).index()
 }

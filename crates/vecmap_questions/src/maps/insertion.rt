@@ -1,5 +1,5 @@
 //! Insertions of a key and a value.
-ghost use Rattle.std.specs.Prelude.{◌≡◌, ◌+◌, ◌-◌, ◌++◌, ◌∷◌, ◌<◌, ◌≤◌, ℕ, [], IfOk, None, OnErr, OnOk, Some, if◌then◌else◌, is_some, length, nat_eq, option_map, slice_get, true};
+ghost use Rattle.std.specs.Prelude.{◌≡◌, ◌+◌, ◌-◌, ◌++◌, ◌∷◌, ◌<◌, ◌≤◌, ℕ, [], IfErr, IfOk, None, OnErr, OnOk, Some, if◌then◌else◌, is_some, length, nat_eq, option_map, slice_get, true};
 ghost use Rattle.std.specs.Map.{keys_of};
 ghost use Rattle.vecmap.specs.Pairs.{HasDistinctKeys, index_of, index_or_length, lookup, put, put_key, value_at};
 
@@ -52,6 +52,7 @@ pub fn insert_then_result(
     value: u32,
 ) -> Result<Option<u32>, Refused<(u32, u32)>>
     ensures result { IfOk result (λ old. old ≡ lookup nat_eq map.old.entries key) }
+    ensures refused { IfErr result (λ refused. refused.given ≡ (key, value)) }
 {
     map.insert(key, value)
 }
@@ -136,6 +137,7 @@ pub fn insert_full_then_index(
     ensures index { IfOk result (λ i. index_of nat_eq map.new.entries key ≡ Some i) }
     ensures result { IfOk result (λ i. i < length map.new.entries) }
     ensures values { IfOk result (λ i. value_at map.new.entries i ≡ Some value) }
+    ensures refused { IfErr result (λ refused. refused.given ≡ (key, value)) }
 {
     let (index, _old) = map.insert_full(key, value)?;
     Ok(index)
@@ -187,6 +189,7 @@ pub fn insert_key_then_result(
 ) -> Result<Option<(u32, u32)>, Refused<(u32, u32)>>
     ensures result { IfOk result (λ old. option_map (λ p. p.1) old ≡ lookup nat_eq map.old.entries
         key) }
+    ensures refused { IfErr result (λ refused. refused.given ≡ (key, value)) }
 {
     map.insert_key(key, value)
 }

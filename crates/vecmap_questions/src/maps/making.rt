@@ -1,5 +1,5 @@
 //! New maps, copies and equality.
-ghost use Rattle.std.specs.Prelude.{◌≡◌, ◌∷◌, ◌<◌, ◌≤◌, ℕ, [], IfOk, IsTrue, None, Some, false, is_some, length, nat_eq, option_map, slice_get};
+ghost use Rattle.std.specs.Prelude.{◌≡◌, ◌∷◌, ◌<◌, ◌≤◌, ℕ, [], IfOk, IsTrue, None, Some, false, is_some, length, nat_eq, option_map, slice_get, vec_capacity};
 ghost use Rattle.std.specs.Map.{keys_of};
 ghost use Rattle.vecmap.specs.Equality.{has_same_counts};
 ghost use Rattle.vecmap.specs.Pairs.{HasDistinctKeys, index_of, lookup, puts};
@@ -11,6 +11,8 @@ pub fn new_then(alloc: Global) -> VecMap<u32, u32>
     ensures lookup { (q : ℕ) → lookup nat_eq result.entries q ≡ None }
     ensures length { length result.entries ≡ 0 }
     ensures distinct { HasDistinctKeys nat_eq result.entries }
+    ensures list { result.entries ≡ [] }
+    ensures capacity { result.capacity ≡ 0 }
 {
     VecMap::new(alloc)
 }
@@ -25,6 +27,7 @@ pub fn from_then(pairs: Vec<(u32, u32)>) -> VecMap<u32, u32>
     ensures keys { HasDistinctKeys nat_eq pairs.items → keys_of result.entries ≡ keys_of pairs.items }
     ensures empty { 0 < length pairs.items → 0 < length result.entries }
     ensures list { result.entries ≡ puts nat_eq [] pairs.items }
+    ensures capacity { result.capacity ≡ vec_capacity pairs }
 {
     VecMap::from(pairs)
 }
@@ -39,6 +42,7 @@ pub fn from_vec_counted_then(pairs: Vec<(u32, u32)>) -> VecMap<u32, u32>
     ensures keys { HasDistinctKeys nat_eq pairs.items → keys_of result.entries ≡ keys_of pairs.items }
     ensures empty { 0 < length pairs.items → 0 < length result.entries }
     ensures list { result.entries ≡ puts nat_eq [] pairs.items }
+    ensures capacity { result.capacity ≡ vec_capacity pairs }
 {
     let (map, _count) = VecMap::from_vec_counted(pairs);
     map
@@ -54,6 +58,7 @@ pub fn from_vec_unchecked_then(pairs: Vec<(u32, u32)>) -> VecMap<u32, u32>
     ensures keys { HasDistinctKeys nat_eq pairs.items → keys_of result.entries ≡ keys_of pairs.items }
     ensures distinct { HasDistinctKeys nat_eq result.entries }
     ensures list { result.entries ≡ pairs.items }
+    ensures capacity { result.capacity ≡ vec_capacity pairs }
 {
     VecMap::from_vec_unchecked(pairs)
 }
@@ -69,6 +74,7 @@ pub fn from_slice_then(alloc: Global, pairs: &[(u32, u32)]) -> Result<VecMap<u32
         made.entries q ≡ lookup nat_eq pairs.now q) }
     ensures length { IfOk result (λ made. length made.entries ≤ length pairs.now) }
     ensures distinct { IfOk result (λ made. HasDistinctKeys nat_eq made.entries) }
+    ensures capacity { IfOk result (λ made. length pairs.now ≤ made.capacity) }
 {
     VecMap::from_slice(alloc, pairs)
 }
@@ -78,6 +84,7 @@ pub fn from_array_then(alloc: Global, key: u32, value: u32) -> Result<VecMap<u32
     ensures length { IfOk result (λ made. length made.entries ≡ 1) }
     ensures distinct { IfOk result (λ made. HasDistinctKeys nat_eq made.entries) }
     ensures list { IfOk result (λ made. made.entries ≡ (key, value) ∷ []) }
+    ensures capacity { IfOk result (λ made. 1 ≤ made.capacity) }
 {
     VecMap::from_array(alloc, [(key, value)])
 }
@@ -102,6 +109,7 @@ pub fn to_vec_then(map: &VecMap<u32, u32>) -> Result<Vec<(u32, u32)>, AllocError
 
 pub fn into_vec_then(map: VecMap<u32, u32>) -> Vec<(u32, u32)>
     ensures pair { result.items ≡ map.entries }
+    ensures capacity { vec_capacity result ≡ map.capacity }
 {
     map.into_vec()
 }

@@ -1,7 +1,7 @@
 //! Insertions at an index, of a new key, and of what a closure makes.
-ghost use Rattle.std.specs.Prelude.{◌≡◌, ◌+◌, ◌-◌, ◌++◌, ◌∷◌, ◌<◌, ◌≤◌, ℕ, [], IsSome, None, Ok, OnErr, OnOk, Some, false, if◌then◌else◌, insert, is_some, length, nat_eq, slice_get, true};
+ghost use Rattle.std.specs.Prelude.{◌≡◌, ◌+◌, ◌-◌, ◌++◌, ◌∷◌, ◌<◌, ◌≤◌, ℕ, [], IfErr, IfOk, IsSome, None, Ok, OnErr, OnOk, Some, false, if◌then◌else◌, insert, is_some, length, min, nat_eq, slice_get, true};
 ghost use Rattle.std.specs.Map.{keys_of, values_of};
-ghost use Rattle.vecmap.specs.Pairs.{HasDistinctKeys, index_of, index_or_length, lookup, put_at};
+ghost use Rattle.vecmap.specs.Pairs.{HasDistinctKeys, index_of, index_or_length, lookup, lookup_indexed, put_at};
 
 use std::alloc::AllocError;
 use vecmap::{Refused, VecMap};
@@ -49,6 +49,21 @@ pub fn insert_at_then_if_distinct(
 {
     map.insert_at(index, key, value)?;
     Ok(())
+}
+
+pub fn insert_at_then_refused(
+    map: &mut VecMap<u32, u32>,
+    index: usize,
+    key: u32,
+    value: u32,
+) -> Result<Option<(usize, u32)>, Refused<(u32, u32)>>
+    requires within { index ≤ length map.old.entries }
+    ensures refused { IfErr result (λ refused. refused.given ≡ (key, value)) }
+    ensures result { IfOk result (λ old. old ≡ lookup_indexed nat_eq map.old.entries key) }
+    ensures ends { OnOk result (slice_get map.new.entries (min index (length map.new.entries - 1))
+        ≡ Some (key, value)) }
+{
+    map.insert_at(index, key, value)
 }
 
 pub fn insert_at_then_if_distinct_generic<K: Eq + Drop>(
@@ -125,6 +140,17 @@ pub fn insert_unique_then_if_distinct(
 {
     map.insert_unique(key, value)?;
     Ok(())
+}
+
+pub fn insert_unique_then_refused(
+    map: &mut VecMap<u32, u32>,
+    key: u32,
+    value: u32,
+) -> Result<(), Refused<(u32, u32)>>
+    requires absent { lookup nat_eq map.old.entries key ≡ None }
+    ensures refused { IfErr result (λ refused. refused.given ≡ (key, value)) }
+{
+    map.insert_unique(key, value)
 }
 
 pub fn insert_unique_then_generic<K: Eq + Drop>(

@@ -1,9 +1,10 @@
 //! Writes at an index, and of all values.
-ghost use Rattle.std.specs.Prelude.{◌≡◌, ◌-◌, ◌/◌, ◌<◌, ℕ, IsSome, Some, if◌then◌else◌, is_some, length, nat_eq, option_map, slice_set};
+ghost use Rattle.std.specs.Prelude.{◌≡◌, ◌-◌, ◌/◌, ◌*◌, ◌<◌, ℕ, IsSome, Ok, OnOk, Some, if◌then◌else◌, is_some, length, nat_eq, option_map, slice_set};
 ghost use Rattle.std.specs.List.{All};
 ghost use Rattle.std.specs.Map.{keys_of, values_of};
 ghost use Rattle.vecmap.specs.Pairs.{HasDistinctKeys, index_of, lookup, map_values, value_at};
 
+use std::alloc::AllocError;
 use vecmap::VecMap;
 
 pub fn index_mut_at_then_if_distinct(map: &mut VecMap<u32, u32>, index: usize, value: u32)
@@ -178,6 +179,42 @@ pub fn update_values_then_if_distinct(map: &mut VecMap<u32, u32>, value: u32)
     ensures distinct { HasDistinctKeys nat_eq map.new.entries }
 {
     map.update_values(|_key, stored| *stored = value);
+}
+
+pub fn try_update_values_then(map: &mut VecMap<u32, u32>, value: u32) -> Result<(), AllocError>
+    ensures lookup { (q : ℕ) → OnOk result (lookup nat_eq map.new.entries q ≡ option_map (λ
+        _. value) (lookup nat_eq map.old.entries q)) }
+    ensures indices { (q : ℕ) → index_of nat_eq map.new.entries q ≡ index_of nat_eq map.old.entries
+        q }
+    ensures length { length map.new.entries ≡ length map.old.entries }
+    ensures keys { keys_of map.new.entries ≡ keys_of map.old.entries }
+    ensures capacity { map.new.capacity ≡ map.old.capacity }
+{
+    map.try_update_values(
+        |_key, stored| -> Result<(), AllocError>
+            ensures { (result ≡ Ok tt) × (stored.new ≡ value) }
+        {
+            *stored = value;
+            Ok(())
+        },
+    )
+}
+
+pub fn try_update_values_then_if_distinct(
+    map: &mut VecMap<u32, u32>,
+    value: u32,
+) -> Result<(), AllocError>
+    requires distinct { HasDistinctKeys nat_eq map.old.entries }
+    ensures distinct { HasDistinctKeys nat_eq map.new.entries }
+{
+    map.try_update_values(
+        |_key, stored| -> Result<(), AllocError>
+            ensures { (result ≡ Ok tt) × (stored.new ≡ value) }
+        {
+            *stored = value;
+            Ok(())
+        },
+    )
 }
 
 pub fn update_values_then_generic<K: Eq + Drop>(map: &mut VecMap<K, u32>)

@@ -1,5 +1,5 @@
 //! Insertions.
-ghost use Rattle.std.specs.Prelude.{◌≡◌, ◌+◌, ◌-◌, ◌++◌, ◌∷◌, ◌<◌, ◌≤◌, ◌||◌, ℕ, [], IfOk, Ok, OnErr, OnOk, Some, false, if◌then◌else◌, length, nat_eq, not, slice_get, true};
+ghost use Rattle.std.specs.Prelude.{◌≡◌, ◌+◌, ◌-◌, ◌++◌, ◌∷◌, ◌<◌, ◌≤◌, ◌||◌, ℕ, [], IfErr, IfOk, Ok, OnErr, OnOk, Some, false, if◌then◌else◌, is_some, length, nat_eq, not, slice_get, true};
 ghost use Rattle.std.specs.List.{IsDistinct, list_any};
 ghost use Rattle.std.specs.Set.{is_member};
 ghost use Rattle.vecmap.specs.Items.{add, item_index, put_item};
@@ -36,6 +36,7 @@ pub fn insert_then(set: &mut VecSet<u32>, item: u32) -> Result<(), AllocError>
 
 pub fn insert_then_result(set: &mut VecSet<u32>, item: u32) -> Result<bool, Refused<u32>>
     ensures result { IfOk result (λ added. added ≡ not (is_member nat_eq set.old.elements item)) }
+    ensures refused { IfErr result (λ refused. refused.given ≡ item) }
 {
     set.insert(item)
 }
@@ -100,6 +101,7 @@ pub fn insert_full_then_result(
 ) -> Result<(usize, bool), Refused<u32>>
     ensures result { IfOk result (λ done. slice_get set.new.elements done.0 ≡ Some item) }
     ensures present { IfOk result (λ done. done.1 ≡ not (is_member nat_eq set.old.elements item)) }
+    ensures refused { IfErr result (λ refused. refused.given ≡ item) }
 {
     set.insert_full(item)
 }
@@ -129,6 +131,13 @@ pub fn replace_then(set: &mut VecSet<u32>, item: u32) -> Result<(), AllocError>
     Ok(())
 }
 
+pub fn replace_then_refused(set: &mut VecSet<u32>, item: u32) -> Result<Option<u32>, Refused<u32>>
+    ensures refused { IfErr result (λ refused. refused.given ≡ item) }
+    ensures result { IfOk result (λ old. is_some old ≡ is_member nat_eq set.old.elements item) }
+{
+    set.replace(item)
+}
+
 pub fn insert_unique_then(set: &mut VecSet<u32>, item: u32) -> Result<(), AllocError>
     requires absent { is_member nat_eq set.old.elements item ≡ false }
     ensures present { OnOk result (is_member nat_eq set.new.elements item ≡ true) }
@@ -151,6 +160,13 @@ pub fn insert_unique_then(set: &mut VecSet<u32>, item: u32) -> Result<(), AllocE
 {
     set.insert_unique(item)?;
     Ok(())
+}
+
+pub fn insert_unique_then_refused(set: &mut VecSet<u32>, item: u32) -> Result<(), Refused<u32>>
+    requires absent { is_member nat_eq set.old.elements item ≡ false }
+    ensures refused { IfErr result (λ refused. refused.given ≡ item) }
+{
+    set.insert_unique(item)
 }
 
 pub fn add_item_then(set: &mut VecSet<u32>, item: u32) -> Result<(), AllocError>

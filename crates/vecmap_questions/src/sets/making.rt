@@ -1,5 +1,5 @@
 //! New sets, copies and equality.
-ghost use Rattle.std.specs.Prelude.{◌≡◌, ◌<◌, ◌≤◌, ◌||◌, ℕ, [], IfOk, IsTrue, Some, false, length, nat_eq, slice_get, true};
+ghost use Rattle.std.specs.Prelude.{◌≡◌, ◌<◌, ◌≤◌, ◌||◌, ℕ, [], IfOk, IsTrue, Some, false, length, nat_eq, slice_get, true, vec_capacity};
 ghost use Rattle.std.specs.List.{IsDistinct};
 ghost use Rattle.std.specs.Set.{is_member};
 ghost use Rattle.vecmap.specs.Equality.{has_same_items};
@@ -11,6 +11,8 @@ use vecmap::{VecSet, vecset};
 pub fn new_then(alloc: Global) -> VecSet<u32>
     ensures members { (q : ℕ) → is_member nat_eq result.elements q ≡ false }
     ensures length { length result.elements ≡ 0 }
+    ensures list { result.elements ≡ [] }
+    ensures capacity { result.capacity ≡ 0 }
 {
     VecSet::new(alloc)
 }
@@ -22,6 +24,7 @@ pub fn from_then(items: Vec<u32>) -> VecSet<u32>
     ensures distinct { IsDistinct nat_eq result.elements }
     ensures empty { 0 < length items.items → 0 < length result.elements }
     ensures list { result.elements ≡ adds nat_eq [] items.items }
+    ensures capacity { result.capacity ≡ vec_capacity items }
 {
     VecSet::from(items)
 }
@@ -33,6 +36,7 @@ pub fn from_vec_counted_then(items: Vec<u32>) -> VecSet<u32>
     ensures distinct { IsDistinct nat_eq result.elements }
     ensures empty { 0 < length items.items → 0 < length result.elements }
     ensures list { result.elements ≡ adds nat_eq [] items.items }
+    ensures capacity { result.capacity ≡ vec_capacity items }
 {
     let (set, _count) = VecSet::from_vec_counted(items);
     set
@@ -45,6 +49,7 @@ pub fn from_vec_unchecked_then(items: Vec<u32>) -> VecSet<u32>
     ensures order { IsDistinct nat_eq items.items → result.elements ≡ items.items }
     ensures distinct { IsDistinct nat_eq result.elements }
     ensures list { result.elements ≡ items.items }
+    ensures capacity { result.capacity ≡ vec_capacity items }
 {
     VecSet::from_vec_unchecked(items)
 }
@@ -84,6 +89,7 @@ pub fn from_slice_then(alloc: Global, items: &[u32]) -> Result<VecSet<u32>, Allo
 pub fn from_array_then(alloc: Global, item: u32) -> Result<VecSet<u32>, AllocError>
     ensures present { IfOk result (λ made. is_member nat_eq made.elements item ≡ true) }
     ensures length { IfOk result (λ made. length made.elements ≡ 1) }
+    ensures capacity { IfOk result (λ made. 1 ≤ made.capacity) }
 {
     VecSet::from_array(alloc, [item])
 }
@@ -108,6 +114,7 @@ pub fn to_vec_then(set: &VecSet<u32>) -> Result<Vec<u32>, AllocError>
 pub fn into_vec_then(set: VecSet<u32>) -> Vec<u32>
     ensures element { result.items ≡ set.elements }
     ensures distinct { IsDistinct nat_eq result.items }
+    ensures capacity { vec_capacity result ≡ set.capacity }
 {
     set.into_vec()
 }

@@ -1,0 +1,3 @@
+//! Callers that count comparisons.
+pub mod maps;
+pub mod sets;
