@@ -153,7 +153,7 @@ pub fn contains_item_inline<T: Eq>(items: &[T], item: &T) -> bool
 
 // Like [`contains_item`], by a plain loop, which is inlined. It is the fastest for few items.
 #[inline(always)]
-pub(crate) fn contains_by_loop<T: Eq>(items: &[T], item: &T) -> bool
+fn contains_by_loop<T: Eq>(items: &[T], item: &T) -> bool
     ensures { result ≡ is_member T.eq items.now item.now }
 {
     contains_by_loop_with::<Brand, T>(items, item, Blank::new(1))
