@@ -1,3 +1,0 @@
-//! Callers that count comparisons.
-pub mod maps;
-pub mod sets;
