@@ -4,11 +4,10 @@ use Rattle.vecmap_definitions.proofs.Notation.{MapRef, map_of}
 use Rattle.vecmap_laws.specs.Agreement.{agrees, lookups_agree}
 use Rattle.vecmap_laws.specs.Algebra.{lazy_intersection, lazy_union}
 use Rattle.vecmap_laws.specs.Combining.{combine, put_with, puts_with}
-use Rattle.vecmap_laws.specs.Counting.{count_of, counted, counted_all}
 use Rattle.vecmap_laws.specs.FirstValue.{put_new, puts_new}
 use Rattle.vecmap_laws.specs.Inverse.{flipped}
 use Rattle.vecmap_laws.specs.Nested.{inner_entries, inner_entries_by}
-use Rattle.vecmap_laws.specs.Removals.{below, shifted, without_keys}
+use Rattle.vecmap_laws.specs.Removals.{below, shifted}
 
 module _ {A K T : Type 0} (x y : T) (j k : K) (a b c d : A) (r : MapRef T A) where
   lookups_agree-1 : lookups_agree nat_eq nat_eq (2 ∷ []) ((1, 5) ∷ (2, 6) ∷ []) ((2, 6) ∷ []) ≡ true
@@ -38,18 +37,6 @@ module _ {A K T : Type 0} (x y : T) (j k : K) (a b c d : A) (r : MapRef T A) whe
   puts_with-1 : puts_with nat_eq min ((1, 5) ∷ []) ((1, 3) ∷ (2, 4) ∷ []) ≡ ((1, 3) ∷ (2, 4) ∷ [])
   puts_with-1 = refl
 
-  count_of-1 : count_of nat_eq ((1, 2) ∷ []) 1 ≡ 2
-  count_of-1 = refl
-
-  count_of-2 : count_of nat_eq ((1, 2) ∷ []) 3 ≡ 0
-  count_of-2 = refl
-
-  counted-1 : counted nat_eq ((1, 2) ∷ []) 1 ≡ ((1, 3) ∷ [])
-  counted-1 = refl
-
-  counted_all-1 : counted_all nat_eq [] (1 ∷ 2 ∷ 1 ∷ []) ≡ ((1, 2) ∷ (2, 1) ∷ [])
-  counted_all-1 = refl
-
   put_new-1 : put_new nat_eq ((1, a) ∷ []) 1 b ≡ ((1, a) ∷ [])
   put_new-1 = refl
 
@@ -67,9 +54,6 @@ module _ {A K T : Type 0} (x y : T) (j k : K) (a b c d : A) (r : MapRef T A) whe
 
   inner_entries-1 : inner_entries nat_eq ((1, map_of ((k, a) ∷ []) 4) ∷ []) 2 ≡ []
   inner_entries-1 = refl
-
-  without_keys-1 : without_keys nat_eq ((1, a) ∷ (2, b) ∷ []) (1 ∷ []) ≡ ((2, b) ∷ [])
-  without_keys-1 = refl
 
   below-1 : below 2 (Some 1) ≡ Some 1
   below-1 = refl

@@ -1,8 +1,7 @@
 -- What is found, and at which index, after one insertion and after many.
-pub use Rattle.vecmap_base.proofs.PairsLemmas.AtIndices.{index_of_put_key, length_put_key}
 pub use Rattle.vecmap_base.proofs.PairsLemmas.Puts.{put_some}
-use Rattle.std.specs.{Cmp.IsEquivalence, List.list_any, Map.keys_of, Map.values_of, Option.option_and_then, Option.option_map, Option.option_map_or, Option.option_or}
-use Rattle.std.proofs.Common.{◌≡◌, ◌<◌, ◌+◌, ℕ, zero, Bool, position, true, false, List, [], ◌∷◌, ◌++◌, Option, None, Some, if◌then◌else◌, is_some, length, slice_get, suc, unwrap_or, refl, sym, ap, ◌∙◌, arith, length-append, true≢false}
+use Rattle.std.specs.{Cmp.IsEquivalence, List.list_any, Map.keys_of, Option.option_and_then, Option.option_map, Option.option_map_or, Option.option_or}
+use Rattle.std.proofs.Common.{◌≡◌, ◌<◌, ◌+◌, ℕ, Bool, position, true, false, List, [], ◌∷◌, ◌++◌, Option, None, Some, if◌then◌else◌, is_some, length, slice_get, unwrap_or, refl, sym, ap, ◌∙◌, arith, length-append, true≢false}
 use Rattle.std.proofs.lemmas.{List.length-map, Map.Made.is_some-lookup, Option.slice_get-map}
 use Rattle.vecmap_base.specs.Pairs.{HasDistinctKeys, index_of, index_or_length, lookup, put, put_key, puts, value_at, with_value, without_key}
 use Rattle.vecmap_base.proofs.PairsLemmas.Keys.{index_of_is, keys_of_put}
@@ -47,30 +46,6 @@ module _ {K V : Type 0} (eq : K → K → Bool) where
       by : (found : Option ℕ) → length (option_map_or (λ i. with_value l i v) found (l ++ (k, v) ∷ [])) ≡ (if is_some found then length l else length l + 1)
       by None = length-append l ((k, v) ∷ [])
       by (Some i) = length_with_value l i v
-
-  -- An insertion that stores the new key leaves the values that one leaves that keeps the old key.
-  pub values_of_put_key : (l : List (K × V)) (k : K) (v : V) → values_of (put_key eq l k v) ≡ values_of (put eq l k v)
-  values_of_put_key [] k v = refl
-  values_of_put_key (p ∷ ps) k v = by (eq k p.0) (values_of_put_key ps k v)
-    where
-      by : (b : Bool) → values_of (put_key eq ps k v) ≡ values_of (put eq ps k v) → values_of (if b then (k, v) ∷ ps else p ∷ put_key eq ps k v) ≡ values_of (if b then (p.0, v) ∷ ps else p ∷ put eq ps k v)
-      by true e = refl
-      by false e = ap (λ vs. p.1 ∷ vs) e
-
-  -- An insertion leaves each pair but that of its key at its index.
-  pub slice_get_put_other : (l : List (K × V)) (k : K) (v : V) (i : ℕ) → (index_of eq l k ≡ Some i → ⊥) → i < length l → slice_get (put eq l k v) i ≡ slice_get l i
-  slice_get_put_other [] k v i other h = absurd (omega (arith, h))
-  slice_get_put_other (p ∷ ps) k v zero other h = by (eq k p.0) refl
-    where
-      by : (b : Bool) → eq k p.0 ≡ b → slice_get (if b then (p.0, v) ∷ ps else p ∷ put eq ps k v) 0 ≡ Some p
-      by true e = absurd (other (ap (λ b. if b then Some 0 else option_map suc (index_of eq ps k)) e))
-      by false e = refl
-  slice_get_put_other (p ∷ ps) k v (suc i) other h =
-      by (eq k p.0) refl (λ apart. slice_get_put_other ps k v i apart (omega (arith, h)))
-    where
-      by : (b : Bool) → eq k p.0 ≡ b → ((index_of eq ps k ≡ Some i → ⊥) → slice_get (put eq ps k v) i ≡ slice_get ps i) → slice_get (if b then (p.0, v) ∷ ps else p ∷ put eq ps k v) (suc i) ≡ slice_get ps i
-      by true e more = refl
-      by false e more = more (λ f. other (ap (λ b. if b then Some 0 else option_map suc (index_of eq ps k)) e ∙ ap (option_map suc) f))
 
   -- After insertions the list has a pair, if it had one before or one was inserted.
   pub puts_some : (l ps : List (K × V)) → 0 < length l + length ps → 0 < length (puts eq l ps)

@@ -1,2 +1,1 @@
--- Elements that are equal to no element of a list, or to none before them.
 pub use Rattle.vecmap_base.proofs.DistinctLemmas.Absent.{distinct_if_absent, distinct_none, none_before, none_equal}

@@ -1,9 +1,8 @@
 -- Distinct keys stay distinct in parts of a list, without one of them, and in what a closure that writes no key keeps.
-use Rattle.std.specs.{List.IsDistinct, List.remove_range, Map.keys_of, Map.values_of}
+use Rattle.std.specs.{List.IsDistinct, List.remove_range, Map.keys_of}
 use Rattle.std.proofs.Common.{◌≡◌, ℕ, ◌≤◌, ◌-◌, Bool, List, ◌++◌, drop, filter, slice_range, take, subst, sym, ◌∙◌}
 use Rattle.std.proofs.lemmas.{List.drop-map, List.map-append, List.take-map, Map.Made.IsDistinct-keys_filter}
 use Rattle.vecmap_base.specs.Pairs.{HasDistinctKeys}
-pub use Rattle.vecmap_base.proofs.PairsLemmas.Filtered.{distinct_keys_kept}
 use Rattle.vecmap_base.proofs.DistinctLemmas.Removals.{distinct_drop, distinct_remove_range, distinct_take}
 use Rattle.vecmap_laws.proofs.DistinctKeys.{distinct_keys_take}
 
@@ -15,9 +14,6 @@ module _ {K V : Type 0} where
   -- The keys and the values without those of a part of the list.
   pub keys_of_remove_range : (l : List (K × V)) (i j : ℕ) → keys_of (remove_range l i j) ≡ remove_range (keys_of l) i j
   keys_of_remove_range l i j = map-append (λ p. p.0) (take i l) (drop j l) ∙ sym (λ t. take-map (λ p. p.0) i l t ++ drop-map (λ p. p.0) j l t)
-
-  pub values_of_remove_range : (l : List (K × V)) (i j : ℕ) → values_of (remove_range l i j) ≡ remove_range (values_of l) i j
-  values_of_remove_range l i j = map-append (λ p. p.1) (take i l) (drop j l) ∙ sym (λ t. take-map (λ p. p.1) i l t ++ drop-map (λ p. p.1) j l t)
 
 module _ {K V : Type 0} (eq : K → K → Bool) where
   pub distinct_keys_drop : (l : List (K × V)) (n : ℕ) → HasDistinctKeys eq l → HasDistinctKeys eq (drop n l)

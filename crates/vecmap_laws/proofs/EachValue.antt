@@ -1,13 +1,10 @@
 -- A function of each key and each value of a list of pairs, and a fact about each value.
 use Rattle.std.proofs.Common.{◌≡◌, Bool, true, false, List, [], ◌∷◌, Some, All, if◌then◌else◌, map, option_map, refl, sym, ap, ◌∙◌, subst}
 use Rattle.std.proofs.lemmas.{List.Elements.All-cons, List.Elements.All-head, List.Elements.All-tail}
-use Rattle.vecmap_base.specs.Pairs.{index_of, lookup, map_values, put}
+use Rattle.vecmap_base.specs.Pairs.{lookup, map_values, put}
 use Rattle.vecmap_base.proofs.PairsLemmas.Indices.{lookup_by_map_values}
 use Rattle.std.proofs.lemmas.List.Elements.{All-contains}
 use Rattle.vecmap_base.proofs.PairsLemmas.Order.{pair_of_value}
-use Rattle.std.proofs.lemmas.Map.Made.{keys_of-map_values}
-use Rattle.vecmap_base.proofs.PairsLemmas.Keys.{index_of_is}
-use Rattle.vecmap_base.specs.Items.{item_index}
 
 -- `f` of a key has the `==` of the key, as the bytes of a text have.
 module _ {K L V W : Type 0} (eq : K → K → Bool) (eq_image : L → L → Bool) (f : K → L) (same : (x y : K) → eq_image (f x) (f y) ≡ eq x y) (g : V → W) where
@@ -29,10 +26,6 @@ module _ {K V W : Type 0} (eq : K → K → Bool) (g : V → W) where
   pub lookup_map_values : (l : List (K × V)) (k : K) → lookup eq (map_values g l) k ≡ option_map g (lookup eq l k)
   lookup_map_values l k = lookup_by_map_values g (eq k) l
 
-  -- The keys stay at their indices.
-  pub index_of_map_values : (l : List (K × V)) (k : K) → index_of eq (map_values g l) k ≡ index_of eq l k
-  index_of_map_values l k = index_of_is eq (map_values g l) k ∙ ap (λ ks. item_index eq ks k) (keys_of-map_values g l) ∙ sym (index_of_is eq l k)
-
   -- An insertion, seen in the list with `g` of each value, inserts `g` of the value.
   pub map_values_put : (l : List (K × V)) (k : K) (v : V) → map_values g (put eq l k v) ≡ put eq (map_values g l) k (g v)
   map_values_put = map_pairs_put eq eq (λ k. k) (λ x y. refl) g
@@ -52,14 +45,3 @@ module _ {K V : Type 0} (eq : K → K → Bool) (P : V → Type 0) where
       by : (b : Bool) → All (λ q. P q.1) ps → All (λ q. P q.1) (put eq ps k v) → All (λ q. P q.1) (if b then (p.0, v) ∷ ps else p ∷ put eq ps k v)
       by true r t = All-cons (λ q. P q.1) (p.0, v) ps h r
       by false r t = All-cons (λ q. P q.1) p (put eq ps k v) (All-head (λ q. P q.1) p ps a) t
-
-module _ {K V W : Type 0} (eq : K → K → Bool) (g : K → V → W) (same : (x y : K) → eq x y ≡ true → (v : V) → g y v ≡ g x v) where
-  -- In the list with `g` of each key and its value, a lookup finds `g` of the key and of what it found before.
-  pub lookup_map_pairs : (l : List (K × V)) (q : K) → lookup eq (map (λ p. (p.0, g p.0 p.1)) l) q ≡ option_map (g q) (lookup eq l q)
-  lookup_map_pairs [] q = refl
-  lookup_map_pairs (p ∷ ps) q = by (eq q p.0) refl (lookup_map_pairs ps q)
-    where
-      by : (b : Bool) → eq q p.0 ≡ b → lookup eq (map (λ r. (r.0, g r.0 r.1)) ps) q ≡ option_map (g q) (lookup eq ps q)
-          → (if b then Some (g p.0 p.1) else lookup eq (map (λ r. (r.0, g r.0 r.1)) ps) q) ≡ option_map (g q) (if b then Some p.1 else lookup eq ps q)
-      by true e rest = ap Some (same q p.0 e p.1)
-      by false e rest = rest

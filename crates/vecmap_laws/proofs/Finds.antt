@@ -30,9 +30,6 @@ module _ {K V : Type 0} (eq : K → K → Bool) (o : IsEquivalence eq) where
   pub lookup_swap : (l : List (K × V)) (i j : ℕ) (q : K) → i < length l → j < length l → HasDistinctKeys eq l → lookup eq (swap l i j) q ≡ lookup eq l q
   lookup_swap l i j q h k d = lookup_swapped l ((i, j) ∷ []) q (h, k, tt) d
 
-  pub distinct_keys_swap : (l : List (K × V)) (i j : ℕ) → i < length l → j < length l → HasDistinctKeys eq l → HasDistinctKeys eq (swap l i j)
-  distinct_keys_swap l i j h k d = distinct_swapped l ((i, j) ∷ []) (h, k, tt) d
-
   pub lookup_reverse : (l : List (K × V)) (q : K) → HasDistinctKeys eq l → lookup eq (reverse l) q ≡ lookup eq l q
   lookup_reverse l q d = lookup_rearranged eq o l (reverse l) (IsPermutation-reverse l) d q
 

@@ -5,7 +5,7 @@ use Rattle.vecmap_base.specs.Pairs.{index_of, index_or_length}
 use Rattle.vecmap_base.proofs.PairsLemmas.Recursion.{index_of_cons}
 use Rattle.vecmap_base.proofs.PairsLemmas.ByIndex.{index_by_is}
 use Rattle.vecmap_base.proofs.IndexLemmas.{list_any_map, position_none}
-pub use Rattle.vecmap_base.proofs.PairsLemmas.Indices.{lookup_by_map_values, is_some_index_of, is_some_index_of_rest}
+pub use Rattle.vecmap_base.proofs.PairsLemmas.Indices.{lookup_by_map_values, is_some_index_of}
 
 module _ {K V : Type 0} (p : K × V) (ps : List (K × V)) where
   module _ (eq : K → K → Bool) (k : K) where

@@ -1,10 +1,9 @@
 -- Pairs in two maps that are inverse to each other: one has the list `l`, and the other `flipped l`.
-use Rattle.std.proofs.Common.{◌≡◌, ℕ, Bool, true, List, [], ◌∷◌, None, Some, ap, refl, remove, slice_get, suc, sym, zero, ◌∙◌}
-use Rattle.std.proofs.lemmas.{List.map-append, Option.slice_get-map}
+use Rattle.std.proofs.Common.{◌≡◌, ℕ, Bool, true, List, [], ◌∷◌, Some, ap, refl, remove, slice_get, suc, sym, zero, ◌∙◌}
+use Rattle.std.proofs.lemmas.{Option.slice_get-map}
 use Rattle.std.specs.{Cmp.IsEquivalence, Option.option_map}
-use Rattle.vecmap_base.proofs.PairsLemmas.Puts.{put_absent}
-use Rattle.vecmap_base.specs.Pairs.{HasDistinctKeys, index_of, lookup, put, without_key}
-use Rattle.vecmap_laws.proofs.AfterPuts.{index_of_own, lookup_own}
+use Rattle.vecmap_base.specs.Pairs.{HasDistinctKeys, index_of, lookup, without_key}
+use Rattle.vecmap_laws.proofs.AfterPuts.{index_of_own}
 use Rattle.vecmap_laws.proofs.FoundLemmas.{stored_if_found}
 use Rattle.vecmap_laws.proofs.Inserted.{without_key_at}
 use Rattle.vecmap_laws.specs.Inverse.{flipped}
@@ -16,19 +15,12 @@ flipped_remove (p ∷ ps) zero = refl
 flipped_remove (p ∷ ps) (suc i) = ap (λ m. (p.1, p.0) ∷ m) (flipped_remove ps i)
 
 module _ {K V : Type 0} (eq : K → K → Bool) (eq_value : V → V → Bool) where
-  -- An insertion of a new key with a new value is one into both.
-  pub put_flipped : (l : List (K × V)) (k : K) (v : V) → index_of eq l k ≡ None → index_of eq_value (flipped l) v ≡ None → put eq_value (flipped l) v k ≡ flipped (put eq l k v)
-  put_flipped l k v none no_value = put_absent eq_value (flipped l) v k no_value ∙ sym (ap flipped (put_absent eq l k v none) ∙ map-append (λ p. (p.1, p.0)) l ((k, v) ∷ []))
 
   module _ (o : IsEquivalence eq_value) (l : List (K × V)) (d : HasDistinctKeys eq_value (flipped l)) (k : K) (v : V) (found : lookup eq l k ≡ Some v) where
     at_index : (i : ℕ) × (key : K) × (index_of eq l k ≡ Some i) × (slice_get (flipped l) i ≡ Some (v, key)) × (eq k key ≡ true)
     at_index =
         let at = stored_if_found eq l k v found in
         (at.0, at.1, at.2, slice_get-map (λ p. (p.1, p.0)) l at.0 ∙ ap (option_map (λ p. (p.1, p.0))) at.3, at.4)
-
-    -- The value of a key finds a key that is equal to it.
-    pub lookup_flipped : (key : K) × (lookup eq_value (flipped l) v ≡ Some key) × (eq k key ≡ true)
-    lookup_flipped = let at = at_index in (at.1, lookup_own eq_value o (flipped l) d at.0 v at.1 at.3, at.4)
 
     -- The removal of a key from the one, and of its value from the other, removes the same pair.
     pub without_flipped : without_key eq_value (flipped l) v ≡ flipped (without_key eq l k)

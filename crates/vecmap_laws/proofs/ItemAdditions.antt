@@ -2,7 +2,7 @@
 use Rattle.std.proofs.Common.{◌≡◌, Bool, List, ◌++◌}
 use Rattle.std.proofs.lemmas.List.Sums.{fold-append}
 use Rattle.vecmap_base.specs.Items.{add, adds}
-pub use Rattle.vecmap_base.proofs.ItemsLemmas.Additions.{add_absent, add_present, adds_apart, adds_distinct, adds_more}
+pub use Rattle.vecmap_base.proofs.ItemsLemmas.Additions.{add_absent, add_present, adds_apart, adds_distinct}
 
 module _ {T : Type 0} (eq : T → T → Bool) where
   -- Elements that are added in two parts are added as a whole.

@@ -3,7 +3,6 @@ use Rattle.std.specs.{Cmp.IsEquivalence, List.IsDistinct}
 use Rattle.std.proofs.Common.{◌≡◌, ◌<◌, ◌++◌, ℕ, Bool, true, false, List, [], ◌∷◌, None, Option, Some, if◌then◌else◌, length, option_map, slice_get, unwrap_or, refl, sym, ap, ◌∙◌, ◌+◌, arith, is_some, true≢false}
 use Rattle.vecmap_base.specs.Items.{add, item_index}
 use Rattle.vecmap_base.proofs.ItemsLemmas.Recursion.{item_index_cons}
-pub use Rattle.vecmap_base.proofs.ItemsLemmas.Indices.{is_some_item_index_rest}
 use Rattle.vecmap_set.proofs.IndexLemmas.{position_own}
 use Rattle.vecmap_laws.proofs.ItemMembers.{slice_get_append, item_index_append}
 use Rattle.std.specs.Set.{is_member}

@@ -70,14 +70,3 @@ module _ {T : Type 0} (eq : T → T → Bool) where
         by true false = refl
         by false true = refl
         by false false = refl
-
-    -- What was present stays present, and what was added is present.
-    pub is_member_kept : (s : List T) (x y : T) → is_member eq s y ≡ true → is_member eq (add eq s x) y ≡ true
-    is_member_kept s x y e = is_member_add s x y ∙ ap (λ b. b || eq x y) e
-
-    pub is_member_added : (s : List T) (x : T) → is_member eq (add eq s x) x ≡ true
-    is_member_added s x = is_member_add s x x ∙ ap (λ b. is_member eq s x || b) (o.refl x) ∙ by (is_member eq s x)
-      where
-        by : (b : Bool) → (b || true) ≡ true
-        by true = refl
-        by false = refl

@@ -3,7 +3,7 @@ use Rattle.std.specs.Option.{option_map, option_map_or}
 use Rattle.std.proofs.Common.{◌≡◌, ℕ, suc, Bool, true, false, List, ◌∷◌, Option, None, Some, if◌then◌else◌, position, remove, refl, ap, ◌∙◌}
 use Rattle.vecmap_base.specs.Items.{without_first, without_item}
 use Rattle.vecmap_base.proofs.IndexLemmas.{position_cons}
-pub use Rattle.vecmap_base.proofs.ItemsLemmas.Recursion.{item_index_cons, add_cons, put_item_cons}
+pub use Rattle.vecmap_base.proofs.ItemsLemmas.Recursion.{item_index_cons, add_cons}
 
 module _ {T : Type 0} (test : T → Bool) where
   pub without_first_cons : (x : T) (xs : List T) → without_first test (x ∷ xs) ≡ (if test x then xs else x ∷ without_first test xs)

@@ -2,7 +2,6 @@
 use Rattle.std.specs.Prelude.{◌≡◌, Bool, List, [], ◌∷◌, filter, if◌then◌else◌, refl}
 use Rattle.std.proofs.Common.{subst, ◌∙◌}
 use Rattle.vecmap_base.specs.Kept.{Kept, TestsItems}
-pub use Rattle.vecmap_base.proofs.KeptLemmas.{callable_here, kept_one, kept_not, kept_here, kept_all, written_while, written_in_state}
 
 module _ {F X : Type 0} (R : F → X → Bool → X → F → Type 0) where
   -- A closure that writes nothing and returns the result of a test keeps the items that pass the test.

@@ -1,20 +1,13 @@
 -- The keys of a list of pairs, as a list of elements. What changes the pairs changes the keys in the same way.
 use Rattle.std.specs.Map.{keys_of}
 use Rattle.std.proofs.Common.{◌≡◌, Bool, true, false, List, [], ◌∷◌, if◌then◌else◌, refl, sym, ap, ◌∙◌}
-use Rattle.vecmap_base.specs.{Items.put_item, Items.without_item, Pairs.put_key, Pairs.without_key}
-use Rattle.vecmap_laws.proofs.ItemRecursion.{put_item_cons, without_item_cons}
-use Rattle.vecmap_laws.proofs.Recursion.{put_key_cons, without_key_cons}
+use Rattle.vecmap_base.specs.{Items.without_item, Pairs.without_key}
+use Rattle.vecmap_laws.proofs.ItemRecursion.{without_item_cons}
+use Rattle.vecmap_laws.proofs.Recursion.{without_key_cons}
 pub use Rattle.vecmap_base.proofs.PairsLemmas.Distinct.{keys_of_remove}
 pub use Rattle.vecmap_base.proofs.PairsLemmas.Keys.{index_of_is, keys_of_insert, keys_of_put, keys_of_puts}
 
 module _ {K V : Type 0} (eq : K → K → Bool) where
-  pub keys_of_put_key : (l : List (K × V)) (k : K) (v : V) → keys_of (put_key eq l k v) ≡ put_item eq (keys_of l) k
-  keys_of_put_key [] k v = refl
-  keys_of_put_key (p ∷ ps) k v = ap keys_of (put_key_cons eq p ps k v) ∙ by (eq k p.0) (keys_of_put_key ps k v) ∙ sym (put_item_cons eq p.0 (keys_of ps) k)
-    where
-      by : (b : Bool) → keys_of (put_key eq ps k v) ≡ put_item eq (keys_of ps) k → keys_of (if b then (k, v) ∷ ps else p ∷ put_key eq ps k v) ≡ (if b then k ∷ keys_of ps else p.0 ∷ put_item eq (keys_of ps) k)
-      by true e = refl
-      by false e = ap (λ ks. p.0 ∷ ks) e
 
   pub keys_of_without_key : (l : List (K × V)) (k : K) → keys_of (without_key eq l k) ≡ without_item eq (keys_of l) k
   keys_of_without_key [] k = refl

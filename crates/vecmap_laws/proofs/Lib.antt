@@ -7,7 +7,6 @@ pub mod CloneEquality
 pub use Rattle.vecmap_base.proofs.CloneLemmas
 pub mod Combining
 mod ComparisonLemmas
-pub mod CountingLemmas
 pub use Rattle.vecmap_map.proofs.ContentsLemmas
 pub mod DistinctAbsent
 pub mod DistinctAdditions
@@ -17,11 +16,9 @@ pub mod DistinctParts
 pub use Rattle.vecmap_base.proofs.DistinctLemmas.Removals as DistinctRemovals
 pub mod EachPair
 pub mod EachValue
-pub mod EntryLemmas
 mod EntryPuts
 pub mod Equations
 pub mod FilterLemmas
-pub mod Filters
 pub mod Finds
 pub mod FirstValue
 pub mod FoundLemmas
@@ -60,15 +57,11 @@ pub mod Recursion
 pub mod RemovalLemmas
 pub mod Rules
 pub mod SearchedMaps
-pub mod SearchedSets
-pub mod SetCongruence
 pub mod SetEquality
-pub mod SetFilters
 pub mod SetRelations
 pub mod SortedLemmas
 pub mod TextQueries
 pub mod TwoKeys
-pub mod Undone
 pub use Rattle.vecmap_base.proofs.UpdatedLemmas
 pub mod Values
 pub mod WalkLemmas

@@ -2,12 +2,11 @@
 -- collection, and IsMade holds of a collection that was created empty. The idea: a lookup after `put` finds the written
 -- collection at its key, and at other keys what it found before.
 use Rattle.std.specs.{Cmp.IsEquivalence, Option.UnwrapsOrElse, Option.option_map_or}
-use Rattle.std.proofs.Common.{◌≡◌, Bool, true, false, List, [], None, Option, Some, sym, ap, if◌then◌else◌, refl, subst, ◌∙◌, inl, inr}
+use Rattle.std.proofs.Common.{◌≡◌, Bool, true, false, List, [], None, Option, Some, sym, ap, subst, ◌∙◌, inl, inr}
 use Rattle.std.proofs.lemmas.Bool.{cases_Bool}
 use Rattle.vecmap_base.specs.Pairs.{index_of, lookup, put}
 use Rattle.vecmap_map.specs.{Contents.Contents, Entry.entries_with, Entry.entry_key, Entry.entry_map, Entry.entry_index_of, Entry.entry_value}
 use Rattle.vecmap_map.specs.declared.entry.Entry.{Entry}
-use Rattle.vecmap_laws.proofs.AfterPuts.{lookup_put_any}
 use Rattle.vecmap_laws.proofs.Lookups.{lookup_congr, lookup_put, lookup_put_other}
 use Rattle.vecmap_map.proofs.EntryLemmas.Puts.{entries_with_put, entry_value_is}
 
@@ -37,14 +36,6 @@ module _ {K W A : Type 0} (eq : K → K → Bool) (inside : W → List A) where
     -- Each other key has the list that it had before.
     pub inner_put_other : (l : List (K × W)) (k : K) (w : W) (q : K) → eq k q ≡ false → inner (put eq l k w) q ≡ inner l q
     inner_put_other l k w q n = ap (λ found. option_map_or inside found []) (lookup_put_other eq o l k w q n)
-
-    -- Both cases in one.
-    pub inner_put_any : (l : List (K × W)) (k : K) (w : W) (q : K) → inner (put eq l k w) q ≡ (if eq k q then inside w else inner l q)
-    inner_put_any l k w q = ap (λ found. option_map_or inside found []) (lookup_put_any eq o l k w q) ∙ by (eq k q)
-      where
-        by : (b : Bool) → option_map_or inside (if b then Some w else lookup eq l q) [] ≡ (if b then inside w else inner l q)
-        by true = refl
-        by false = refl
 
     module _ (IsMade : W → Type 0) (empty : (w : W) → IsMade w → inside w ≡ []) where
       -- A change of the collection of a key, which was created empty if there was none.

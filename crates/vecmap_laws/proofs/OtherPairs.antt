@@ -1,27 +1,16 @@
 -- What a removal, an insertion, a write and a placement leave of the other pairs. The idea: the list without the key is
 -- the same before and after, and a placement is an insertion into that list.
-use Rattle.std.proofs.Common.{◌≡◌, ◌<◌, ◌≤◌, ℕ, Bool, true, false, List, [], ◌∷◌, ◌++◌, None, Option, Some, ap, arith, if◌then◌else◌, insert, length, min, position, refl, remove, set, slice_get, suc, sym, zero, ◌∙◌, ◌-◌}
+use Rattle.std.proofs.Common.{◌≡◌, ◌<◌, ◌≤◌, ℕ, Bool, true, false, List, [], ◌∷◌, ◌++◌, None, Option, Some, ap, arith, if◌then◌else◌, insert, length, min, refl, remove, set, slice_get, suc, sym, zero, ◌∙◌, ◌-◌}
 use Rattle.std.proofs.lemmas.{List.drop_min, List.set-get_or, List.take_min, List.Edits.length-remove, List.Quantifiers.position-Some, Option.get_or_from_slice_get, Option.slice_get_within}
-use Rattle.std.specs.{Cmp.IsEquivalence, List.list_any, Map.set_value, Option.option_map_or}
-use Rattle.vecmap_base.proofs.IndexLemmas.{position_none}
+use Rattle.std.specs.{Cmp.IsEquivalence, Map.set_value, Option.option_map_or}
 use Rattle.vecmap_base.proofs.PairsLemmas.{ByIndex.index_by_is, ByIndex.without_by_index, Puts.put_absent}
-use Rattle.vecmap_base.specs.Items.{swap_without, swap_without_first, without_first}
+use Rattle.vecmap_base.specs.Items.{swap_without}
 use Rattle.vecmap_base.specs.Pairs.{HasDistinctKeys, index_of, lookup, put, put_at, swap_without_key, without_key}
 use Rattle.vecmap_map.specs.Contents.{Contents, with_value_of}
 use Rattle.vecmap_laws.proofs.AfterPuts.{index_of_without_key}
 use Rattle.vecmap_laws.proofs.Inserted.{absent_first, index_none, insert_where_removed, without_key_at}
 use Rattle.vecmap_laws.proofs.Puts.{put_at_absent, put_at_present}
 use Rattle.vecmap_laws.proofs.RemovalLemmas.{passing_at}
-
--- A removal by a test that no item passes changes nothing.
-pub without_first_absent : {X : Type 0} (test : X → Bool) (xs : List X) → position test xs ≡ None → without_first test xs ≡ xs
-without_first_absent test xs none = ap (λ found. option_map_or (λ i. remove xs i) found xs) none
-
-pub swap_without_first_absent : {X : Type 0} (test : X → Bool) (xs : List X) → position test xs ≡ None → swap_without_first test xs ≡ xs
-swap_without_first_absent test xs none = ap (λ found. option_map_or (λ i. swap_without xs i) found xs) none
-
-pub without_first_missing : {X : Type 0} (test : X → Bool) (xs : List X) → list_any test xs ≡ false → without_first test xs ≡ xs
-without_first_missing test xs none = without_first_absent test xs (position_none test xs none)
 
 -- An index past the end is the end.
 insert_min : {X : Type 0} (xs : List X) (i : ℕ) (x : X) → insert xs (min i (length xs)) x ≡ insert xs i x

@@ -2,16 +2,13 @@
 use Rattle.std.specs.Option.{option_map_or}
 use Rattle.std.proofs.Common.{◌≡◌, ◌∙◌, ap, Bool, List, ◌∷◌, Some, if◌then◌else◌, refl, remove}
 use Rattle.vecmap_base.specs.Items.{swap_without, swap_without_first, without_first}
-use Rattle.vecmap_base.specs.Pairs.{lookup, put_key, swap_without_by, without_by, without_key}
+use Rattle.vecmap_base.specs.Pairs.{lookup, swap_without_by, without_by, without_key}
 use Rattle.vecmap_base.proofs.PairsLemmas.ByIndex.{index_by_is, without_by_index}
 pub use Rattle.vecmap_base.proofs.PairsLemmas.Recursion.{index_of_cons, put_cons}
 
 module _ {K V : Type 0} (eq : K → K → Bool) where
   pub lookup_cons : (p : K × V) (ps : List (K × V)) (k : K) → lookup eq (p ∷ ps) k ≡ (if eq k p.0 then Some p.1 else lookup eq ps k)
   lookup_cons p ps k = refl
-
-  pub put_key_cons : (p : K × V) (ps : List (K × V)) (k : K) (v : V) → put_key eq (p ∷ ps) k v ≡ (if eq k p.0 then (k, v) ∷ ps else p ∷ put_key eq ps k v)
-  put_key_cons p ps k v = refl
 
   pub without_key_cons : (p : K × V) (ps : List (K × V)) (k : K) → without_key eq (p ∷ ps) k ≡ (if eq k p.0 then ps else p ∷ without_key eq ps k)
   without_key_cons p ps k = refl

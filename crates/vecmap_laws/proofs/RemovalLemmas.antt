@@ -8,8 +8,8 @@ use Rattle.vecmap_base.proofs.IndexLemmas.{list_any_position}
 use Rattle.vecmap_laws.proofs.ItemQueries.{tells_as}
 use Rattle.vecmap_laws.proofs.Queries.{lookup_by_query}
 use Rattle.vecmap_base.specs.Items.{swap_without}
-use Rattle.vecmap_base.specs.Pairs.{HasDistinctKeys, lookup, lookup_by}
-use Rattle.vecmap_base.proofs.{DistinctLemmas.Order.distinct_rearranged, PairsLemmas.Updates.lookup_by_taken}
+use Rattle.vecmap_base.specs.Pairs.{lookup, lookup_by}
+use Rattle.vecmap_base.proofs.{DistinctLemmas.Order.distinct_rearranged}
 use Rattle.vecmap_laws.proofs.HeadLemmas.{head_not_in_rest}
 use Rattle.vecmap_base.proofs.PairsLemmas.Order.{pair_of_value}
 use Rattle.vecmap_set.proofs.IndexLemmas.{found_item_at}
@@ -43,9 +43,6 @@ module _ {T : Type 0} (eq : T → T → Bool) (o : IsEquivalence eq) where
       by false e all = sym (ap (λ b. b || list_any (eq y) rest) (o.symm y x ∙ e)) ∙ sym all ∙ last (is_member eq s y)
 
 module _ {K V : Type 0} (eq : K → K → Bool) (o : IsEquivalence eq) where
-  -- One of the pairs is taken out: its key is absent, and all other keys find what they found before.
-  pub lookup_taken : (l rest : List (K × V)) (p : K × V) → IsPermutation l (p ∷ rest) → HasDistinctKeys eq l → (q : K) → lookup eq rest q ≡ (if eq p.0 q then None else lookup eq l q)
-  lookup_taken l rest p moved d q = lookup_by_taken eq o (eq q) (o.congr q) l rest p d moved ∙ ap (λ b. if b then None else lookup eq l q) (o.symm q p.0)
 
   -- What a query finds has the same `f` in two lists, if what each key that it matches finds has.
   pub query_finds_same : {X : Type 0} (f : Option V → X) (test : K → Bool) → IsKeyTest eq test → (l m : List (K × V)) → ((q : K) → IsTrue (test q) → f (lookup eq m q) ≡ f (lookup eq l q)) → f (lookup_by test m) ≡ f (lookup_by test l)
@@ -89,9 +86,3 @@ module _ {X : Type 0} (takes : List X → ℕ → List X) (leaves : (xs : List X
         by : (found : Option ℕ) → position test s ≡ found → is_member eq (option_map_or (takes s) found s) y ≡ (is_member eq s y && not (test y))
         by None e = none (is_member eq s y) (test y) (absent e)
         by (Some i) e = let at = passing_at test s i e in is_member_by_index s d i at.0 at.1 y ∙ ap (λ b. is_member eq s y && not b) (sym (respects at.0 y at.2))
-
--- The same of pairs.
-module _ {K V : Type 0} (takes : List (K × V) → ℕ → List (K × V)) (leaves : (l : List (K × V)) (i : ℕ) (p : K × V) → slice_get l i ≡ Some p → IsPermutation l (p ∷ takes l i)) where
-  module _ (eq : K → K → Bool) (o : IsEquivalence eq) where
-    pub value_by_index : (l : List (K × V)) → HasDistinctKeys eq l → (i : ℕ) (k : K) (v : V) → slice_get l i ≡ Some (k, v) → (q : K) → lookup eq (takes l i) q ≡ (if eq k q then None else lookup eq l q)
-    value_by_index l d i k v at = lookup_taken eq o l (takes l i) (k, v) (leaves l i (k, v) at) d

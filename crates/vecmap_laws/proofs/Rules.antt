@@ -5,7 +5,6 @@ use Rattle.std.specs.List.{IsDistinct}
 use Rattle.vecmap_base.specs.Pairs.{HasDistinctKeys}
 use Rattle.vecmap_base.proofs.DistinctLemmas.Absent.{distinct_none}
 use Rattle.vecmap_base.proofs.DistinctLemmas.Additions.{distinct_add, distinct_adds}
-use Rattle.vecmap_base.proofs.MoveLemmas.{moved_last}
 use Rattle.vecmap_base.proofs.LoopLemmas.{key_stays, keys_written}
 use Rattle.vecmap_base.proofs.PairsLemmas.Keys.{keys_of_put, keys_of_puts}
 use Rattle.vecmap_base.proofs.WalkLemmas.{drained_all}
@@ -14,7 +13,7 @@ use Rattle.vecmap_laws.proofs.AfterPuts.{index_of_congr, index_of_put, lookup_pu
 use Rattle.vecmap_laws.proofs.AtNumbers.{lookups_of_equal_numbers, put_put_of_numbers}
 use Rattle.vecmap_laws.proofs.AtTexts.{lookups_of_equal_texts, put_put_of_texts}
 pub use Rattle.vecmap_laws.proofs.AtNumbers.{lookups_at_numbers, members_at_numbers}
-pub use Rattle.vecmap_laws.proofs.AtTexts.{lookups_at_texts, members_at_texts, texts}
+pub use Rattle.vecmap_laws.proofs.AtTexts.{texts}
 use Rattle.vecmap_laws.proofs.CloneEquality.{clones_equal, equal_to_itself, equal_to_itself_at_numbers, same_clones}
 use Rattle.vecmap_laws.proofs.SearchedMaps.{inserted_new, search_finds, search_finds_at_numbers, sorted_after, sorted_after_at_numbers}
 use Rattle.vecmap_laws.proofs.DistinctKeys.{distinct_keys_remove, distinct_keys_swap_without_key, distinct_keys_take, distinct_put, distinct_put_at, distinct_put_key, distinct_puts}
@@ -114,9 +113,6 @@ pub ruleset new_keys = (new_above, absent_before)
 
 -- What holds of each pair, and which pairs a test selects, after a change of one pair.
 pub ruleset each = (all_without, filter_without, holds_after_put, nothing_written)
-
--- A list of which one item was moved to the end.
-pub ruleset moves_to_the_end = (moved_last)
 
 -- What lookups find in equal maps.
 pub ruleset equal_at_numbers = (lookups_of_equal_numbers)

@@ -5,7 +5,7 @@ use Rattle.std.specs.List.Sorted.{IsPermutation}
 use Rattle.std.proofs.lemmas.Bool.{and_from, and_parts}
 use Rattle.std.proofs.lemmas.List.Sorted.{list_any-IsPermutation}
 use Rattle.vecmap_base.specs.Equality.{has_same_items, is_within}
-pub use Rattle.vecmap_base.proofs.EqualityLemmas.Sets.{Within, within_from_test, test_from_within, set_equality_laws, length_within, longer_not_within, within_back, set_lengths_differ, set_equal_by_half}
+pub use Rattle.vecmap_base.proofs.EqualityLemmas.Sets.{Within, set_equality_laws, longer_not_within, set_lengths_differ, set_equal_by_half}
 use Rattle.vecmap_laws.proofs.SetRelations.{same_items}
 
 module _ {T : Type 0} (eq : T → T → Bool) (o : IsEquivalence eq) where

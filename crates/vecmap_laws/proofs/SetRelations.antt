@@ -11,7 +11,7 @@ use Rattle.std.proofs.lemmas.Map.Made.{length-from_same_keys}
 use Rattle.vecmap_base.specs.Equality.{has_same_items}
 use Rattle.vecmap_base.specs.Items.{both, only}
 pub use Rattle.vecmap_base.proofs.EqualityLemmas.Sets.{same_items}
-pub use Rattle.vecmap_base.proofs.EqualityLemmas.Relations.{is_member_both, is_member_only, both_empty_turned, apart_by_walk, apart_by_walk_turned, distinct_both, distinct_only, distinct_union, distinct_symmetric_difference}
+pub use Rattle.vecmap_base.proofs.EqualityLemmas.Relations.{is_member_both, both_empty_turned, distinct_both, distinct_only, distinct_union, distinct_symmetric_difference}
 use Rattle.vecmap_set.proofs.OperatorLemmas.{is_member_union as member_of_union}
 
 module _ {T : Type 0} (eq : T → T → Bool) (o : IsEquivalence eq) where

@@ -3,8 +3,7 @@ use Rattle.std.proofs.Common.{◌≡◌, ◌-◌, List, [], ◌∷◌, ◌++◌,
 use Rattle.std.specs.{Iterator.YieldsFirstBy, Iterator.YieldsLastBy, List.slice_get}
 use Rattle.std.specs.Option.{option_map}
 use Rattle.vecmap_laws.specs.Pulls.{End, Pulls, PullsBy, back, front}
-pub use Rattle.vecmap_base.proofs.WalkLemmas.{shows_in_order, shows_in_reverse, shows_rest_in_order, shows_rest_in_reverse, shows_values_in_order, shows_values_in_reverse, gives_in_order, gives_in_reverse, all_zip_mapped}
-pub use Rattle.vecmap_base.proofs.IndexLemmas.{remove_last, slice_get_last}
+pub use Rattle.vecmap_base.proofs.IndexLemmas.{slice_get_last}
 
 -- The first and the last item of a list, and what each leaves if it is removed.
 module _ {T : Type 0} where

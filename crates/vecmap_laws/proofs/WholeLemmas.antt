@@ -3,8 +3,5 @@ use Rattle.std.proofs.Common.{◌≡◌}
 use Rattle.vecmap_map.specs.Contents.{Contents}
 use Rattle.vecmap_set.specs.Contents as sets
 
-pub same_map : {K V : Type 0} (m n : Contents K V) → m.entries ≡ n.entries → m.capacity ≡ n.capacity → m ≡ n
-same_map m n e c = λ t. record { entries = e t; capacity = c t }
-
 pub same_set : {T : Type 0} (s t : sets.Contents T) → s.elements ≡ t.elements → s.capacity ≡ t.capacity → s ≡ t
 same_set s t e c = λ x. record { elements = e x; capacity = c x }

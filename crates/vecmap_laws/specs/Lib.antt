@@ -1,10 +1,8 @@
 pub mod Agreement
 pub mod Algebra
 pub mod Combining
-pub mod Counting
 pub mod FirstValue
 pub mod Inverse
 pub mod Nested
 pub mod Pulls
 pub mod Removals
-pub mod Retaining

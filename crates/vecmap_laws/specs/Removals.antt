@@ -1,12 +1,6 @@
 -- What removals of many keys leave. `eq` is the `==` of keys.
-use Rattle.std.specs.Prelude.{ℕ, ◌-◌, Bool, List, None, Option, Some, fold, if◌then◌else◌, nat_lt, option_map}
+use Rattle.std.specs.Prelude.{ℕ, ◌-◌, None, Option, Some, if◌then◌else◌, nat_lt, option_map}
 use Rattle.std.specs.Option.{option_and_then}
-use Rattle.vecmap_base.specs.Pairs.{without_key}
-
--- Example: `without_keys nat_eq [(1, a), (2, b)] [1] ≡ [(2, b)]`.
--- The list `l` after the removal of each of the keys, in order.
-abbrev pub without_keys : {K V : Type 0} → (K → K → Bool) → List (K × V) → List K → List (K × V)
-without_keys eq l keys = fold (λ rest k. without_key eq rest k) l keys
 
 -- Example: `below 2 (Some 1) ≡ Some 1`; `below 2 (Some 3) ≡ None`.
 -- The index `found`, if it is below `n`.

@@ -1,27 +1,16 @@
 //! Laws of maps, and of the definitions that their contracts use. A call of a law costs nothing at run time, and adds
 //! the law to what the proof of the caller knows.
-mod algebra;
-mod congruence;
 mod distinct;
 mod equality;
 mod insertions;
 mod lookups;
 mod nested;
-mod order;
-mod parts;
 mod removals;
-mod sorted;
-mod words;
 mod writes;
 
 pub use crate::lists::{
     eq_is_an_equivalence, key_comparisons_are_bounded, ord_is_a_total_order, texts_are_queries,
 };
-pub use algebra::{
-    bulk_insertions_bound_the_length, insertions_commute, removals_commute, sums_follow_changes,
-    unions_of_disjoint_maps_commute,
-};
-pub use congruence::equal_maps_stay_equal;
 pub use distinct::{
     insertion_keeps_keys_distinct, parts_keep_keys_distinct, removal_keeps_keys_distinct,
 };
@@ -35,25 +24,8 @@ pub use insertions::{
 };
 pub use lookups::{equal_keys_find_the_same, queries_find_as_keys};
 pub use nested::{inner_insertions_are_found, values_are_found_by_two_keys};
-pub use order::{
-    clones_are_equal, clones_keep_lookups, equal_maps_are_rearranged, order_keeps_lookups,
-    permutation, reverse, swap,
-};
-pub use parts::{
-    drop, filter, filters_keep_lookups, parts_keep_lookups, removals_shift_indices, remove_range,
-    take,
-};
 pub use removals::{
     appending_undoes_splitting, moves_keep_lookups, removals_are_forgotten,
     removals_by_index_are_undone, removals_shorten,
 };
-pub use sorted::{
-    binary_searches_find_indices, insertions_where_searches_end_keep_the_order,
-    sorts_of_sorted_maps_change_nothing,
-};
-pub use words::{
-    counted, lists_are_found, put, put_at, put_key, puts, swap_without_key, without_key,
-};
-pub use writes::{
-    writes_are_insertions, writes_by_queries_are_insertions, writes_leave_other_keys,
-};
+pub use writes::{writes_are_insertions, writes_by_queries_are_insertions, writes_leave_other_keys};

@@ -1,6 +1,5 @@
 //! Laws of unions, intersections and differences, and of the lazy iterators over them.
-ghost use Rattle.std.specs.Prelude.{List, [], not, ◌&&◌, ◌||◌, ◌↔◌, ◌≡◌};
-ghost use Rattle.std.specs.Set.{is_member};
+ghost use Rattle.std.specs.Prelude.{List, [], ◌↔◌, ◌≡◌};
 ghost use Rattle.vecmap_base.specs.Items.{both, only};
 ghost use Rattle.vecmap_laws.specs.Algebra.{AgreeAsSets, IgnoresSides, LengthsAddUp, MakesSets, lazy_intersection, lazy_union};
 ghost use Rattle.vecmap_set.specs.Operators.{symmetric_difference_of, union_of};
@@ -45,22 +44,4 @@ pub fn lazy_iterators_give_no_repeats<T: Eq>()
 pub fn lengths_of_intersection_and_union_add_up<T: Eq>()
     ensures lazily { LengthsAddUp T.eq lazy_intersection lazy_union }
     ensures by_operators { LengthsAddUp T.eq both union_of }
-{}
-
-/// An element is present in what an operator creates if the two sets say so.
-///
-/// It is in the intersection if it is in both, in the union if it is in one of them, in the difference if it is in the
-/// first only, and in the symmetric difference if it is in exactly one.
-#[tactic(auto, using(vecmap_base::proofs::EqualityLemmas::Relations::is_member_both, crate::proofs::SetRelations::is_member_union, vecmap_base::proofs::EqualityLemmas::Relations::is_member_only, crate::proofs::AlgebraLemmas::is_member_symmetric_difference))]
-pub fn operators_combine_members<T: Eq>()
-    ensures and { (a b : List T) (x : T)
-        → is_member T.eq (both T.eq a b) x ≡ (is_member T.eq a x && is_member T.eq b x) }
-    ensures or { (a b : List T) (x : T)
-        → is_member T.eq (union_of T.eq a b) x ≡ (is_member T.eq a x || is_member T.eq b x) }
-    ensures sub { (a b : List T) (x : T)
-        → is_member T.eq (only T.eq a b) x ≡ (is_member T.eq a x && not (is_member T.eq b x)) }
-    ensures xor { (a b : List T) (x : T)
-        → is_member T.eq (symmetric_difference_of T.eq a b) x
-        ≡ ((is_member T.eq a x && not (is_member T.eq b x))
-        || (is_member T.eq b x && not (is_member T.eq a x))) }
 {}

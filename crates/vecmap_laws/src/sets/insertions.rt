@@ -2,7 +2,7 @@
 ghost use Rattle.std.specs.Iterator.Runs.{CollectsByExtend};
 ghost use Rattle.std.specs.List.{IsDistinct};
 ghost use Rattle.std.specs.Option.{option_or};
-ghost use Rattle.std.specs.Prelude.{List, Some, [], false, if◌then◌else◌, length, option_map, slice_get, true, unwrap_or, ℕ, ◌++◌, ◌+◌, ◌<◌, ◌||◌, ◌∷◌, ◌≡◌, ◌≤◌};
+ghost use Rattle.std.specs.Prelude.{List, Some, [], false, if◌then◌else◌, length, option_map, slice_get, true, unwrap_or, ℕ, ◌++◌, ◌+◌, ◌<◌, ◌∷◌, ◌≡◌, ◌≤◌};
 ghost use Rattle.std.specs.Set.{is_member};
 ghost use Rattle.vecmap_base.specs.Items.{add, adds, item_index, only};
 ghost use Rattle.vecmap_set.specs.Contents.{Contents};
@@ -49,20 +49,6 @@ pub fn bulk_additions_move_nothing<T: Eq>()
         → item_index T.eq (adds T.eq s xs) x
         ≡ option_or (item_index T.eq s x) (option_map (λ i. length s + i)
         (item_index T.eq (adds T.eq [] (only T.eq xs s)) x)) }
-{}
-
-/// After an addition, an element is present if it was, or if it is equal to the added one.
-///
-/// After many additions, an element is present if it was, or if it is equal to one of the added elements.
-#[tactic(auto, using(crate::proofs::ItemMembers::is_member_added, crate::proofs::ItemMembers::is_member_kept, crate::proofs::ItemMembers::is_member_add, crate::proofs::ItemMembers::is_member_adds))]
-pub fn added_elements_are_present<T: Eq>()
-    ensures added { (s : List T) (x : T) → is_member T.eq (add T.eq s x) x ≡ true }
-    ensures present { (s : List T) (x y : T) → is_member T.eq s y ≡ true
-        → is_member T.eq (add T.eq s x) y ≡ true }
-    ensures members { (s : List T) (x y : T)
-        → is_member T.eq (add T.eq s x) y ≡ (is_member T.eq s y || T.eq x y) }
-    ensures many { (s xs : List T) (y : T)
-        → is_member T.eq (adds T.eq s xs) y ≡ (is_member T.eq s y || is_member T.eq xs y) }
 {}
 
 /// A collected set, extended by one more element, is the set that is collected from the longer list.

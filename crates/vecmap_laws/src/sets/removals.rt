@@ -1,37 +1,9 @@
 //! Laws of what removals leave: which elements, and the length.
 ghost use Rattle.std.specs.List.{IsDistinct};
-ghost use Rattle.std.specs.Prelude.{Bool, List, None, Some, drop, false, filter, if◌then◌else◌, is_some, length, not, remove, slice_get, take, ℕ, ◌&&◌, ◌-◌, ◌≡◌};
-ghost use Rattle.std.specs.Set.{is_member};
+ghost use Rattle.std.specs.Prelude.{Bool, List, drop, filter, take, ℕ, ◌-◌, ◌≡◌};
 ghost use Rattle.vecmap_base.specs.Asked.{CallsAtItem};
-ghost use Rattle.vecmap_base.specs.Items.{adds, item_index, swap_without, swap_without_item, without_item};
+ghost use Rattle.vecmap_base.specs.Items.{adds};
 ghost use Rattle.vecmap_base.specs.Kept.{Kept, TestsItems};
-
-/// After a removal, an element is present if it was, and if it is not equal to the removed one.
-///
-/// The removal of an absent element changes nothing.
-pub fn removals_are_forgotten<T: Eq>()
-    ensures shift { (s : List T) → IsDistinct T.eq s → (x y : T)
-        → is_member T.eq (without_item T.eq s x) y ≡ (is_member T.eq s y && not (T.eq x y)) }
-    ensures swap { (s : List T) → IsDistinct T.eq s → (x y : T)
-        → is_member T.eq (swap_without_item T.eq s x) y ≡ (is_member T.eq s y && not (T.eq x y)) }
-    ensures unchanged { (s : List T) (x : T) → item_index T.eq s x ≡ None → without_item T.eq s x ≡ s }
-    ensures not_found { (s : List T) (x : T) → is_member T.eq s x ≡ false
-        → without_item T.eq s x ≡ s }
-    ensures swap_unchanged { (s : List T) (x : T) → item_index T.eq s x ≡ None
-        → swap_without_item T.eq s x ≡ s }
-{}
-
-/// A removal of an element that is present makes the list shorter by one. Any other removal leaves its length.
-pub fn removals_shorten<T: Eq>()
-    ensures shift { (s : List T) (x : T) → length (without_item T.eq s x)
-        ≡ (if is_some (item_index T.eq s x) then length s - 1 else length s) }
-    ensures swap { (s : List T) (x : T) → length (swap_without_item T.eq s x)
-        ≡ (if is_some (item_index T.eq s x) then length s - 1 else length s) }
-    ensures by_index { (s : List T) (i : ℕ) (x : T) → slice_get s i ≡ Some x
-        → length (remove s i) ≡ length s - 1 }
-    ensures swap_by_index { (s : List T) (i : ℕ) (x : T) → slice_get s i ≡ Some x
-        → length (swap_without s i) ≡ length s - 1 }
-{}
 
 /// `retain` leaves the elements that pass a test, if the closure returns the result of the test.
 ///
