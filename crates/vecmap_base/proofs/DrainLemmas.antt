@@ -3,7 +3,7 @@ use Rattle.std.specs.Prelude.{◌≡◌, ℕ, zero, suc, ◌-◌, ◌<◌, ◌�
 use Rattle.std.specs.List.{remove_range}
 use Rattle.std.specs.List.Sorted.{IsPermutation}
 use Rattle.std.specs.Vec.Iter.{reverse_if}
-use Rattle.std.proofs.Common.{sym, ap, ◌∙◌, append_assoc, arith, drop_at, length-append, length-drop, length-take, subst, take_at, true≢false}
+use Rattle.std.proofs.Common.{sym, ap, ◌∙◌, append_assoc, arith, drop_at, length-append, length-drop, length-take, subst, take_at}
 use Rattle.std.proofs.lemmas.List.{append-nil, drop_all, length-reverse, length_push, reverse-append, reverse-reverse, take-append-le}
 use Rattle.std.proofs.lemmas.List.Edits.{split_between}
 use Rattle.std.proofs.lemmas.List.Folds.{drop_split}
@@ -17,11 +17,7 @@ module _ {X : Type 0} where
   pub parts_of_moved : (xs zs : List X) (i j k : ℕ) → i ≤ j → j ≤ length xs → k ≡ length xs - (j - i) → zs ≡ remove_range xs i j ++ reverse (slice_range xs i j)
       → (reverse_if true (drop k zs) ≡ slice_range xs i j) × (take k zs ≡ remove_range xs i j)
   unfolding reverse_if
-  parts_of_moved xs zs i j k order within keep moved =
-      let stay = remove_range xs i j in
-      let go = slice_range xs i j in
-      let long : length stay ≡ k = omega (arith, length-append (take i xs) (drop j xs), length-take i xs, length-drop j xs) in
-      (ap reverse (ap (drop k) moved ∙ drop_at stay (reverse go) k long) ∙ reverse-reverse go, ap (take k) moved ∙ take_at stay (reverse go) k long)
+  parts_of_moved xs zs i j k order within keep moved = grind (arith, length-append, length-take, length-drop, drop_at, reverse-reverse, take_at)
 
   -- If the range from `i` up to `j` is the end of the list, the end holds the range, in order.
   pub part_at_end : (xs : List X) (i j : ℕ) → i ≤ j → length xs ≤ j → reverse_if false (drop i xs) ≡ slice_range xs i j
@@ -65,19 +61,15 @@ module _ {X : Type 0} where
   pub first_pulled : (b : Bool) (xs ys : List X) (x : X) (k : ℕ) → b ≡ true → k < length xs → xs ≡ ys ++ x ∷ []
       → (reverse_if b (drop k xs) ≡ x ∷ reverse_if b (drop k ys)) × (take k ys ≡ take k xs)
   unfolding reverse_if
-  first_pulled false xs ys x k ordered more e = absurd (true≢false (sym ordered))
-  first_pulled true xs ys x k ordered more e =
-      let long : k ≤ length ys = omega (arith, ap length e, length_push ys x, more) in
-      (ap (λ l. reverse (drop k l)) e ∙ ap reverse (drop_end ys x k long) ∙ reverse-append (drop k ys) (x ∷ []), sym (ap (take k) e ∙ take-append-le k ys (x ∷ []) long))
+  first_pulled false xs ys x k ordered more e = grind (arith, length_push, drop_end, reverse-append, take-append-le)
+  first_pulled true xs ys x k ordered more e = grind (arith, length_push, drop_end, reverse-append, take-append-le)
 
   -- If the end is not reversed, the last item of `xs` is the last that the drain has still to return.
   pub last_pulled : (b : Bool) (xs ys : List X) (x : X) (k : ℕ) → b ≡ false → k < length xs → xs ≡ ys ++ x ∷ []
       → (reverse_if b (drop k xs) ≡ reverse_if b (drop k ys) ++ x ∷ []) × (take k ys ≡ take k xs)
   unfolding reverse_if
-  last_pulled true xs ys x k ordered more e = absurd (true≢false ordered)
-  last_pulled false xs ys x k ordered more e =
-      let long : k ≤ length ys = omega (arith, ap length e, length_push ys x, more) in
-      (ap (drop k) e ∙ drop_end ys x k long, sym (ap (take k) e ∙ take-append-le k ys (x ∷ []) long))
+  last_pulled true xs ys x k ordered more e = grind (arith, length_push, drop_end, take-append-le)
+  last_pulled false xs ys x k ordered more e = grind (arith, length_push, drop_end, take-append-le)
 
   pub length_rest : (b : Bool) (xs : List X) (k : ℕ) → length (reverse_if b (drop k xs)) ≡ length xs - k
   unfolding reverse_if
@@ -93,13 +85,4 @@ module _ {X : Type 0} where
   pub end_reversed : (a b : Bool) (xs ys : List X) (k : ℕ) → not (beq a b) ≡ true → k ≤ length xs → ys ≡ take k xs ++ reverse (drop k xs)
       → (reverse_if b (drop k ys) ≡ reverse_if a (drop k xs)) × (take k ys ≡ take k xs)
   unfolding reverse_if
-  end_reversed a b xs ys k apart le reversed =
-      let long : length (take k xs) ≡ k = omega (arith, length-take k xs) in
-      let back = ap (drop k) reversed ∙ drop_at (take k xs) (reverse (drop k xs)) k long in
-      (by a b apart back, ap (take k) reversed ∙ take_at (take k xs) (reverse (drop k xs)) k long)
-    where
-      by : (a b : Bool) → not (beq a b) ≡ true → drop k ys ≡ reverse (drop k xs) → reverse_if b (drop k ys) ≡ reverse_if a (drop k xs)
-      by true true apart back = absurd (true≢false (sym apart))
-      by true false apart back = back
-      by false true apart back = ap reverse back ∙ reverse-reverse (drop k xs)
-      by false false apart back = absurd (true≢false (sym apart))
+  end_reversed a b xs ys k apart le reversed = grind (arith, length-take, drop_at, take_at, reverse-reverse)

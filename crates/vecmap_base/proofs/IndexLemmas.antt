@@ -1,7 +1,6 @@
 -- The index of the first element of a list that passes a test.
-use Rattle.std.specs.Prelude.{◌≡◌, ℕ, zero, suc, ◌+◌, ◌<◌, Bool, true, false, ◌||◌, not, nat_lt, List, [], ◌∷◌, ◌++◌, Option, None, Some, drop, is_some, length, map, position, remove, slice_get, take, refl}
+use Rattle.std.specs.Prelude.{◌≡◌, ℕ, zero, suc, ◌+◌, ◌<◌, Bool, true, false, ◌||◌, nat_lt, List, [], ◌∷◌, ◌++◌, Option, None, Some, drop, is_some, length, map, position, remove, slice_get, take, refl}
 use Rattle.std.specs.List.{list_any, position_or_len}
-use Rattle.std.specs.Cmp.{both_ways}
 use Rattle.std.specs.Option.{option_and_then, option_map}
 use Rattle.std.proofs.lemmas.Option.{none-some}
 use Rattle.std.proofs.Common.{cond, sym, ap, ◌∙◌, arith, get_or, take_at, true≢false, inl, inr}
@@ -27,18 +26,7 @@ module _ {X : Type 0} where
 module _ {X : Type 0} (p : X → Bool) where
   -- The first index in a list with one element more.
   pub position_cons : (x : X) (xs : List X) → position p (x ∷ xs) ≡ cond (p x) (Some 0) (option_map suc (position p xs))
-  position_cons x xs = by (p x)
-    where
-      one_more : (m : ℕ) → nat_lt (1 + m) (suc (length xs)) ≡ nat_lt m (length xs)
-      one_more m = both_ways _ _ (λ e. lt-ltb m (length xs) (let f = ltb-true _ _ e in omega (arith, f))) (λ e. lt-ltb (1 + m) (suc (length xs)) (let f = ltb-true _ _ e in omega (arith, f)))
-
-      place : (b : Bool) (m : ℕ) → cond b (Some (1 + m)) None ≡ option_map suc (cond b (Some m) None)
-      place true m = ap (λ k. Some k) (omega arith)
-      place false m = refl
-
-      by : (b : Bool) → cond (nat_lt (cond (not b) (1 + position_or_len p xs) 0) (suc (length xs))) (Some (cond (not b) (1 + position_or_len p xs) 0)) None ≡ cond b (Some 0) (option_map suc (position p xs))
-      by true = ap (λ c. cond c (Some 0) None) (lt-ltb 0 (suc (length xs)) (omega arith))
-      by false = ap (λ c. cond c (Some (1 + position_or_len p xs)) None) (one_more (position_or_len p xs)) ∙ place (nat_lt (position_or_len p xs) (length xs)) (position_or_len p xs)
+  position_cons x xs = grind (arith, lt-ltb, ltb-true)
 
   position-hit : (x : X) (xs : List X) → p x ≡ true → position p (x ∷ xs) ≡ Some 0
   position-hit x xs e = position_cons x xs ∙ ap (λ b. cond b (Some 0) (option_map suc (position p xs))) e
@@ -48,12 +36,8 @@ module _ {X : Type 0} (p : X → Bool) where
 
   -- There is a first index exactly if an element passes.
   pub is_some_position : (xs : List X) → is_some (position p xs) ≡ list_any p xs
-  is_some_position [] = refl
-  is_some_position (x ∷ xs) =
-      elim (cases_Bool (p x)) [
-        | inl e ↦ ap is_some (position-hit x xs e) ∙ sym (ap (λ b. b || list_any p xs) e)
-        | inr e ↦ ap is_some (position-miss x xs e) ∙ is_some-map suc (position p xs) ∙ is_some_position xs ∙ sym (ap (λ b. b || list_any p xs) e)
-      ]
+  is_some_position [] = grind (arith, cases_Bool, position-hit, position-miss, is_some-map)
+  is_some_position (x ∷ xs) = grind (arith, cases_Bool, position-hit, position-miss, is_some-map, (is_some_position xs))
 
   pub list_any_position : (xs : List X) → list_any p xs ≡ is_some (position p xs)
   list_any_position xs = sym (is_some_position xs)
@@ -127,9 +111,7 @@ module _ {X : Type 0} (p : X → Bool) where
 
   -- If neither the first `j` elements nor the one at `j` pass, none of the first `k = j + 1` elements does.
   pub none_before_next : (xs : List X) (j k : ℕ) (x : X) → j < length xs → k ≡ j + 1 → x ≡ get_or xs j x → p x ≡ false → position p (take j xs) ≡ None → position p (take k xs) ≡ None
-  none_before_next xs j k x within next e miss none =
-      let before : list_any p (take j xs) ≡ false = list_any_position (take j xs) ∙ ap is_some none in
-      ap (λ m. position p (take m xs)) next ∙ position_none (take (j + 1) xs) (list_any_more p xs j x within ∙ (λ t. before t || (sym (ap p e) ∙ miss) t))
+  none_before_next xs j k x within next e miss none = grind (arith, list_any_position, position_none, list_any_more)
 
   -- If one of the first `k` elements passes, one of all passes.
   pub list_any_front : (xs : List X) (k : ℕ) → list_any p (take k xs) ≡ true → list_any p xs ≡ true

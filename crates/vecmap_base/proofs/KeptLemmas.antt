@@ -1,4 +1,5 @@
 -- A list from which a closure selects item by item. Its front has the items kept so far, and its rest is unchanged.
+use Rattle.std.proofs.lemmas.Grind.{common_steps}
 use Rattle.std.specs.Prelude.{◌≡◌, ℕ, ◌+◌, ◌<◌, ◌≤◌, Bool, true, false, List, [], ◌∷◌, ◌++◌, drop, if◌then◌else◌, length, map, refl, take}
 use Rattle.std.specs.List.{FoldsTo, SwappedAt}
 use Rattle.std.proofs.Common.{ap, append_assoc, arith, get_or, set, subst, sym, ◌∙◌}
@@ -64,16 +65,7 @@ module _ {F X : Type 0} (R : F → X → Bool → X → F → Type 0) where
 
     -- If this call returns `false`, the front stays the same.
     pub kept_not : {b : Bool} → b ≡ false → R f p b y h → KeptSoFar R f0 h xs (set ys i y) k (i + 1)
-    kept_not rejected did =
-        let call = subst (λ b. R f p b y h) rejected did in
-        let front = front_left ys k i y so_far.bound in
-        record {
-          bound = omega (arith, so_far.bound);
-          len = length-set ys i y ∙ so_far.len;
-          rest = front.1 ∙ (rest_more xs ys i p l (omega (arith, l, so_far.len)) so_far.rest).1;
-          calls = calls_more false call;
-          kept = λ m g more. subst (λ t. Kept R f0 xs (t ++ m) g) (sym front.0) (kept_more false call m g more);
-        }
+    kept_not rejected did = grind (arith, common_steps, front_left, length-set, rest_more, calls_more, kept_more)
 
   -- If all items so far were kept, and this call returns `true`, this item is kept where it is.
   pub kept_here : (f0 f h : F) (xs ys : List X) (i : ℕ) (p y : X) → KeptSoFar R f0 f xs ys i i → i < length xs → p ≡ get_or ys i p → {b : Bool} → b ≡ true → R f p b y h → KeptSoFar R f0 h xs (set ys i y) (i + 1) (i + 1)

@@ -1,8 +1,9 @@
 -- Items without a mark, and two lists whose items are matched one to one.
+use Rattle.std.proofs.lemmas.Grind.{common_steps}
 use Rattle.std.specs.Prelude.{◌≡◌, ℕ, zero, suc, ◌+◌, ◌-◌, ◌<◌, ◌≤◌, Bool, true, false, ◌&&◌, ◌||◌, not, List, [], ◌∷◌, None, Some, length, refl}
 use Rattle.std.specs.Cmp.{IsEquivalence, IsPartialEquivalence}
 use Rattle.std.specs.List.{list_any, sum_by}
-use Rattle.std.proofs.Common.{cond, drop, get_or, replicate, set, sym, ap, ◌∙◌, arith, true≢false, inl, inr, ⊎_elim}
+use Rattle.std.proofs.Common.{drop, get_or, replicate, set, sym, ap, ◌∙◌, arith, true≢false, inl, inr, ⊎_elim}
 use Rattle.std.proofs.lemmas.Bool.{and_from, cases_Bool, cases_lt, false_from_ne_true}
 use Rattle.std.proofs.lemmas.Grind.{get_or_after_one}
 use Rattle.std.proofs.lemmas.List.{at_drop_more, drop-replicate, drop_all, length-drop, nil_from_length}
@@ -36,14 +37,12 @@ module _ {X : Type 0} where
   -- One more mark removes the item at its index from the sum over the items without a mark.
   pub sum_free : (f : X → ℕ) (xs : List X) (marks : List Bool) (j : ℕ) (d : X) → j < length xs → get_or marks j true ≡ false → sum_by f (free xs marks) ≡ f (get_or xs j d) + sum_by f (free xs (set marks j true))
   unfolding free
-  sum_free f [] marks j d lt e = absurd (omega arith)
-  sum_free f (x ∷ xs) [] j d lt e = absurd (true≢false e)
-  sum_free f (x ∷ xs) (true ∷ marks) zero d lt e = absurd (true≢false e)
-  sum_free f (x ∷ xs) (false ∷ marks) zero d lt e = sum_by-cons f x (free xs marks)
-  sum_free f (x ∷ xs) (true ∷ marks) (suc j) d lt e = sum_free f xs marks j d (omega arith) e
-  sum_free f (x ∷ xs) (false ∷ marks) (suc j) d lt e =
-      let rest = sum_free f xs marks j d (omega arith) e in
-      omega (arith, rest, sum_by-cons f x (free xs marks), sum_by-cons f x (free xs (set marks j true)))
+  sum_free f [] marks j d lt e = grind (arith, sum_by-cons)
+  sum_free f (x ∷ xs) [] j d lt e = grind (arith, sum_by-cons)
+  sum_free f (x ∷ xs) (true ∷ marks) zero d lt e = grind (arith, sum_by-cons)
+  sum_free f (x ∷ xs) (false ∷ marks) zero d lt e = grind (arith, sum_by-cons)
+  sum_free f (x ∷ xs) (true ∷ marks) (suc j) d lt e = grind (arith, sum_by-cons, (sum_free f xs marks j d (omega arith) e))
+  sum_free f (x ∷ xs) (false ∷ marks) (suc j) d lt e = grind (arith, sum_by-cons, (sum_free f xs marks j d (omega arith) e))
 
   -- The same of the number of these items.
   pub length_free : (xs : List X) (marks : List Bool) (j : ℕ) → j < length xs → get_or marks j true ≡ false → length (free xs marks) ≡ 1 + length (free xs (set marks j true))
@@ -62,31 +61,14 @@ module _ {X : Type 0} (same : X → X → Bool) (o : IsEquivalence same) where
 
   -- The item of `a` at `i` is matched with the item of `b` at `j`.
   one_matched : (a b : List X) (i j : ℕ) (x : X) (marks : List Bool) → i < length a → x ≡ get_or a i x → j < length b → get_or marks j true ≡ false → same x (get_or b j x) ≡ true → Matched a b (drop i a) marks → Matched a b (drop (i + 1) a) (set marks j true)
-  one_matched a b i j x marks within at j_within unmarked like m =
-      let fewer = length_free b marks j j_within unmarked in (
-        omega (arith, m.0, fewer, length-drop i a, length-drop (i + 1) a),
-        λ z.
-            let left : many same o (drop i a) z ≡ cond (same z x) 1 0 + many same o (drop (i + 1) a) z = sum_by-drop_more (λ y. cond (same z y) 1 0) a i x within ∙ ap (λ y. cond (same z y) 1 0 + many same o (drop (i + 1) a) z) (sym at) in
-            let taken = sum_free (λ y. cond (same z y) 1 0) b marks j x j_within unmarked in
-            let alike : same z x ≡ same z (get_or b j x) = o.symm z x ∙ o.congr x (get_or b j x) z like ∙ o.symm (get_or b j x) z in
-            omega (arith, m.1 z, left, taken, ap {B = ℕ} (λ c. cond c 1 0) alike),
-      )
+  one_matched a b i j x marks within at j_within unmarked like m = grind (arith, length_free, length-drop, many, sum_by-drop_more, sum_free)
 
   all_matched : (a b : List X) (i : ℕ) (marks : List Bool) → length a ≤ i → Matched a b (drop i a) marks → all_agree same o a a b ≡ true
-  all_matched a b i marks end m =
-      let no_rest : drop i a ≡ [] = drop_all i a end in
-      let none_left : free b marks ≡ [] = nil_from_length (free b marks) (sym m.0 ∙ ap length no_rest) in
-      agree_everywhere same o a a b (λ z. let counts = m.1 z in let none : many same o (drop i a) z ≡ 0 = ap (λ l. many same o l z) no_rest in let left : many same o (free b marks) z ≡ 0 = ap (λ l. many same o l z) none_left in omega (arith, counts, none, left))
+  all_matched a b i marks end m = grind (arith, drop_all, nil_from_length, agree_everywhere, many)
 
   -- If the item of `a` at `i` cannot be matched, the counts do not agree.
   unmatched : (a b : List X) (i : ℕ) (x : X) (marks : List Bool) → i < length a → x ≡ get_or a i x → list_any (same x) (free b marks) ≡ false → Matched a b (drop i a) marks → all_agree same o a a b ≡ false
-  unmatched a b i x marks within at absent m = false_from_ne_true (all_agree same o a a b) (λ e.
-      let there : list_any (same x) a ≡ true = list_any_at (same x) a i x within (ap (same x) (sym at) ∙ o.refl x) in
-      let as_many = agreed same o a a b x e there in
-      let none = many_absent same o (free b marks) x absent in
-      let left : many same o (drop i a) x ≡ cond (same x x) 1 0 + many same o (drop (i + 1) a) x = sum_by-drop_more (λ y. cond (same x y) 1 0) a i x within ∙ ap (λ y. cond (same x y) 1 0 + many same o (drop (i + 1) a) x) (sym at) in
-      let one : cond (same x x) 1 0 ≡ 1 = ap {B = ℕ} (λ c. cond c 1 0) (o.refl x) in
-      omega (arith, as_many, none, left, one, m.1 x))
+  unmatched a b i x marks within at absent m = grind (arith, common_steps, false_from_ne_true, all_agree, list_any_at, agreed, many_absent, many, sum_by-drop_more)
 
   -- The start, before an item is matched.
   none_matched : (a b : List X) (marks : List Bool) → length a ≡ length b → free b marks ≡ b → Matched a b (drop 0 a) marks
@@ -166,24 +148,7 @@ module _ {X : Type 0} (same : X → X → Bool) (o : IsPartialEquivalence same) 
   -- Lists of two items whose first differ are matched only crosswise.
   two_agree : (x w y z : X) → same x y ≡ false → agree same o (x ∷ w ∷ []) (x ∷ w ∷ []) (y ∷ z ∷ []) ≡ (same x z && same w y)
   unfolding free
-  two_agree x w y z differs =
-      let a = x ∷ w ∷ [] in
-      let b = y ∷ z ∷ [] in
-      elim (cases_Bool (same x z)) [
-        | inl like ↦
-            let matched = first_matched_partial a b 0 x (false ∷ false ∷ []) (omega arith) refl refl refl (omega arith) refl like in
-            elim (cases_Bool (same w y)) [
-              | inl other ↦
-                  all_matched_partial a b 2 (true ∷ true ∷ []) (omega arith) (one_matched_partial a b 1 0 w (false ∷ true ∷ []) (omega arith) refl (omega arith) refl other matched)
-                  ∙ sym (and_from _ _ like other)
-              | inr apart ↦
-                  unmatched_partial a b 1 w (false ∷ true ∷ []) (omega arith) refl (ap (λ c. c || false) apart) matched
-                  ∙ sym (ap (λ c. c && same w y) like ∙ apart)
-            ]
-        | inr apart ↦
-            first_unmatched_partial a b x (false ∷ false ∷ []) (omega arith) refl refl refl differs (ap (λ c. c || false) apart)
-            ∙ sym (ap (λ c. c && same w y) apart)
-      ]
+  two_agree x w y z differs = grind (arith, cases_Bool, first_matched_partial, all_matched_partial, one_matched_partial, and_from, unmatched_partial, first_unmatched_partial)
 
   pub two_agree_at : (a b : List X) (x w y z : X) → length a ≡ 2 → length b ≡ 2 → ((d : X) → same (get_or a 0 d) (get_or b 0 d) ≡ false) → x ≡ get_or a 0 x → w ≡ get_or a 1 w → y ≡ get_or b 0 y → z ≡ get_or b 1 z → agree same o a a b ≡ (same x z && same w y)
   two_agree_at (p ∷ q ∷ []) (r ∷ s ∷ []) x w y z two two_too differs at_x at_w at_y at_z =
@@ -205,12 +170,8 @@ module _ {K V : Type 0} (key : K → K → Bool) (value : V → V → Bool) wher
   other_key false p q e = ap (λ b. b && value p.1 q.1) e
 
   pub other_value : (m : Bool) (p q : K × V) → value p.1 q.1 ≡ false → (not m && same_pair key value p q) ≡ false
-  other_value true p q e = refl
-  other_value false p q e = ap (λ b. key p.0 q.0 && b) e ∙ both_false (key p.0 q.0)
-    where
-      both_false : (b : Bool) → (b && false) ≡ false
-      both_false true = refl
-      both_false false = refl
+  other_value true p q e = grind (arith)
+  other_value false p q e = grind (arith)
 
   -- This holds before the first index of its key.
   pub none_free_before : (pairs : List (K × V)) (marks : List Bool) (p : K × V) (i : ℕ) → Some i ≡ index_of key pairs p.0 → NoneFree pairs marks p i

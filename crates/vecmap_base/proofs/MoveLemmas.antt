@@ -1,5 +1,6 @@
 -- A rotation by one of the part between two indices moves one item from one index to the other. Replacing each item of
 -- the part by the one next to it does the same.
+use Rattle.std.proofs.lemmas.Grind.{common_steps}
 use Rattle.std.specs.{List.Sorted.IsPermutation, Option.option_map_or}
 use Rattle.std.proofs.Common.{◌≡◌, ℕ, zero, suc, ◌+◌, ◌-◌, ◌<◌, ◌≤◌, List, [], ◌∷◌, ◌++◌, ap, arith, append_assoc, drop, drop_at, get_or, insert, length, length-take-le, nat_eq, false, refl, remove, reverse, set, slice_get, swap, Some, subst, sym, take, take_at, true≢false, ◌∙◌}
 use Rattle.std.proofs.lemmas.Bool.{eq-eqb}
@@ -63,29 +64,23 @@ module _ {X : Type 0} where
   -- If at most one item follows the item at `i`, it makes no difference whether the others shift or the last moves to
   -- its place.
   pub swap_removed_near_end : (xs : List X) (i last : ℕ) (d : X) → last + 1 ≡ length xs → i ≤ last → last ≤ i + 1 → take last (set xs i (get_or xs last d)) ≡ remove xs i
-  swap_removed_near_end [] i last d e within near = absurd (omega arith)
-  swap_removed_near_end (x ∷ []) zero zero d e within near = refl
-  swap_removed_near_end (x ∷ []) zero (suc last) d e within near = absurd (omega arith)
-  swap_removed_near_end (x ∷ y ∷ xs) zero zero d e within near = absurd (omega arith)
-  swap_removed_near_end (x ∷ y ∷ []) zero (suc zero) d e within near = refl
-  swap_removed_near_end (x ∷ y ∷ []) zero (suc (suc last)) d e within near = absurd (omega arith)
-  swap_removed_near_end (x ∷ y ∷ z ∷ xs) zero (suc last) d e within near = absurd (omega arith)
-  swap_removed_near_end (x ∷ xs) (suc i) zero d e within near = absurd (omega arith)
-  swap_removed_near_end (x ∷ xs) (suc i) (suc last) d e within near =
-      ap (λ l. x ∷ l) (swap_removed_near_end xs i last d (omega arith) (omega arith) (omega arith))
+  swap_removed_near_end [] i last d e within near = grind (arith)
+  swap_removed_near_end (x ∷ []) zero zero d e within near = grind (arith)
+  swap_removed_near_end (x ∷ []) zero (suc last) d e within near = grind (arith)
+  swap_removed_near_end (x ∷ y ∷ xs) zero zero d e within near = grind (arith)
+  swap_removed_near_end (x ∷ y ∷ []) zero (suc zero) d e within near = grind (arith)
+  swap_removed_near_end (x ∷ y ∷ []) zero (suc (suc last)) d e within near = grind (arith)
+  swap_removed_near_end (x ∷ y ∷ z ∷ xs) zero (suc last) d e within near = grind (arith)
+  swap_removed_near_end (x ∷ xs) (suc i) zero d e within near = grind (arith)
+  swap_removed_near_end (x ∷ xs) (suc i) (suc last) d e within near = grind (arith, (swap_removed_near_end xs i last d (omega arith) (omega arith) (omega arith)))
 
   -- The item at `i` is replaced before it moves.
   pub replaced_and_moved : (xs : List X) (i to : ℕ) (x d : X) → i < length xs → insert (remove (set xs i x) i) to (get_or (set xs i x) i d) ≡ insert (remove xs i) to x
-  replaced_and_moved xs i to x d within =
-      let front : take i (set xs i x) ≡ take i xs = take-set-le i xs i x (omega arith) in
-      let back : drop (suc i) (set xs i x) ≡ drop (suc i) xs = drop-set-lt (suc i) xs i x (omega arith) in
-      λ j. insert (front j ++ back j) to (get_or-set_same xs i x d within j)
+  replaced_and_moved xs i to x d within = grind (arith, take-set-le, drop-set-lt, get_or-set_same)
 
   -- The items before an item that was inserted at the end.
   pub taken_last : (ys : List X) (n m : ℕ) (x : X) → n ≡ length ys → m ≡ length ys → take n (insert ys m x) ≡ ys
-  taken_last ys n m x e f =
-      let size : length (take m ys) ≡ n = length-take-le m ys (omega (arith, f)) ∙ omega (arith, e, f) in
-      take_at (take m ys) (x ∷ drop m ys) n size ∙ rw f (take-length ys)
+  taken_last ys n m x e f = grind (arith, length-take-le, take_at, take-length)
 
   -- An inserted item is removed.
   pub inserted_removed : (xs : List X) (i : ℕ) (x : X) → i ≤ length xs → remove (insert xs i x) i ≡ xs
@@ -201,11 +196,8 @@ module _ {X : Type 0} where
 
   -- Two swapped items leave the others at their indices.
   pub swapped_other : (xs ys : List X) (i j n : ℕ) → ys ≡ swap xs i j → i < length xs → j < length xs → nat_eq n i ≡ false → nat_eq n j ≡ false → slice_get ys n ≡ slice_get xs n
-  swapped_other [] ys i j n e within below h k = absurd (omega arith)
-  swapped_other (x ∷ xs) ys i j n e within below h k =
-      ap (λ l. slice_get l n) (e ∙ sym (swap_is (x ∷ xs) i j x within below))
-      ∙ read_after_set (set (x ∷ xs) i (get_or (x ∷ xs) j x)) j n (get_or (x ∷ xs) i x) (differ n j k)
-      ∙ read_after_set (x ∷ xs) i n (get_or (x ∷ xs) j x) (differ n i h)
+  swapped_other [] ys i j n e within below h k = grind (arith, swap_is, read_after_set, differ)
+  swapped_other (x ∷ xs) ys i j n e within below h k = grind (arith, swap_is, read_after_set, differ)
 
   -- A moved item leaves those before both indices at theirs.
   kept_before : (xs : List X) (from to n : ℕ) (y : X) → from < length xs → n < from → n < to → slice_get (insert (remove xs from) to y) n ≡ slice_get xs n
@@ -234,7 +226,4 @@ module _ {X : Type 0} where
 
   -- An item that is moved to the end.
   pub moved_last : (xs ys : List X) (from to : ℕ) (x : X) → ys ≡ moved xs from to → slice_get xs from ≡ Some x → to ≡ length xs - 1 → ys ≡ remove xs from ++ x ∷ []
-  moved_last xs ys from to x e at last =
-      let shorter = length-remove xs from (slice_get_within xs from x at) in
-      let end : to ≡ length (remove xs from) = omega (arith, last) in
-      e ∙ ap (λ o. option_map_or (λ y. insert (remove xs from) to y) o xs) at ∙ ap (λ i. insert (remove xs from) i x) end ∙ insert_end (remove xs from) x
+  moved_last xs ys from to x e at last = grind (arith, common_steps, length-remove, slice_get_within, insert_end)

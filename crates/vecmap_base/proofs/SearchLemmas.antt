@@ -34,18 +34,13 @@ no_three_past n step a b c by =
 
 -- Half of a power of two, which is more than 1, is a power of two.
 pub halved : (size k : ℕ) → size ≡ 2 ^ k → 1 < size → ((j : ℕ) × (size / 2 ≡ 2 ^ j)) × (size ≡ size / 2 + size / 2)
-halved size zero e more = absurd (omega (arith, e, more))
-halved size (suc k) e more =
-    let twice : size ≡ 2 ^ k * 2 = e ∙ pow-suc 2 k in
-    ((k, omega (arith, twice)), omega (arith, twice))
+halved size zero e more = grind (arith, pow-suc)
+halved size (suc k) e more = grind (arith, pow-suc)
 
 pub quartered : (size k : ℕ) → size ≡ 2 ^ k → 4 ≤ size → ((j : ℕ) × (size / 4 ≡ 2 ^ j)) × (size ≡ 4 * (size / 4))
-quartered size zero e more = absurd (omega (arith, e, more))
-quartered size (suc zero) e more = absurd (omega (arith, e, more))
-quartered size (suc (suc k)) e more =
-    let twice : size ≡ 2 ^ suc k * 2 = e ∙ pow-suc 2 (suc k) in
-    let again : 2 ^ suc k ≡ 2 ^ k * 2 = pow-suc 2 k in
-    ((k, omega (arith, twice, again)), omega (arith, twice, again))
+quartered size zero e more = grind (arith, pow-suc)
+quartered size (suc zero) e more = grind (arith, pow-suc)
+quartered size (suc (suc k)) e more = grind (arith, pow-suc)
 
 module _ {X : Type 0} (ord : X → Ordering) (xs : List X) where
   -- If the items ascend, the item at `base` is not greater, unless `base` is 0, and those from `base + size` on are
@@ -141,6 +136,4 @@ module _ {X : Type 0} (p : X → Bool) (xs : List X) where
   parted_ok i at = (λ k d a b. absurd (neither _ (at d)), λ k d a b. absurd (neither _ (at d)))
 
   pub parted_err : (i : ℕ) → (IsNonDecreasingBy (λ y. ordering_index (side (p y))) xs → IsPartitionPoint (λ y. side (p y) ≡ Less) (λ y. side (p y) ≡ Greater) xs i) → IsPartitionedBy p xs → IsPartitionPoint (λ y. p y ≡ true) (λ y. p y ≡ false) xs i
-  parted_err i found first =
-      let point = found (λ i j d le within. sides_rise _ _ (first i j d le within)) in
-      (λ k d a b. passing _ (point.0 k d a b), λ k d a b. failing _ (point.1 k d a b))
+  parted_err i found first = grind (arith, sides_rise, passing, failing)

@@ -4,7 +4,7 @@ use Rattle.std.specs.Borrow.{Bor, MutBor}
 use Rattle.std.specs.List.{All}
 use Rattle.std.specs.Map.{keys_of}
 use Rattle.std.specs.Prelude.{◌≡◌, List, [], ◌∷◌, ◌++◌, if◌then◌else◌, map, ⊤, Result, Ok, Err}
-use Rattle.std.proofs.Common.{ap, subst, sym, ◌∙◌}
+use Rattle.std.proofs.Common.{arith, ap, subst, sym, ◌∙◌}
 use Rattle.std.proofs.lemmas.List.{map-append}
 use Rattle.std.proofs.lemmas.List.Elements.{All-head, All-tail}
 use Rattle.vecmap_base.specs.Asked.{CallableOnEach}
@@ -34,10 +34,8 @@ module _ {F X : Type 0} (R : F → X → X → F → Type 0) where
 module _ {F K V : Type 0} (R : F → K × V → K × V → F → Type 0) (same : (f : F) (p q : K × V) (g : F) → R f p q g → q.0 ≡ p.0) where
   -- A closure that does not write the key leaves the keys.
   pub keys_updated : (f : F) (l m : List (K × V)) (g : F) → Updated R f l m g → keys_of m ≡ keys_of l
-  keys_updated f [] m g k = ap keys_of k.0
-  keys_updated f (p ∷ ps) m g k =
-      let rest = keys_updated k.2 ps k.3 g k.5 in
-      ap keys_of k.6 ∙ (λ i. keys_of (if k.4.1 i then k.1 ∷ k.3 else k.3)) ∙ (λ i. same f p k.1 k.2 k.4.0 i ∷ rest i)
+  keys_updated f [] m g k = grind (arith)
+  keys_updated f (p ∷ ps) m g k = grind (arith, (keys_updated k.2 ps k.3 g k.5))
 
 module _ {F X S : Type 0} (R : F → X → X → F → Type 0) (Holds : F → Type 0) (view : X → S) (h : S → S) where
   -- If each call takes what `view` sees of the item to `h` of it, so do all calls. A view of a vector is the list of
@@ -52,9 +50,7 @@ module _ {F X S : Type 0} (R : F → X → X → F → Type 0) (Holds : F → Ty
 module _ {F K V E : Type 0} (c : Mut F (Bor K × (MutBor V × Unit {0})) (Result (Unit {0}) E × (MutBor V × Unit {0}))) where
   -- The keys stay if a call fails.
   pub keys_stopped : (e : E) (f : F) (l m : List (K × V)) → StoppedAt c e f l m → keys_of m ≡ keys_of l
-  keys_stopped e f l m s =
-      let front = keys_updated (WritesValueAt c (Ok tt)) (λ f p q g call. call.1) f s.before s.written s.state s.updated in
-      ap keys_of s.leaves ∙ map-append (λ p. p.0) s.written (s.left ∷ s.after) ∙ (λ i. front i ++ s.failed.1 i ∷ keys_of s.after) ∙ sym (map-append (λ p. p.0) s.before (s.pair ∷ s.after)) ∙ ap keys_of (sym s.all)
+  keys_stopped e f l m s = grind (arith, keys_updated, map-append)
 
   -- If also a call that fails leaves what is seen of its pair, `h` is there for the first pairs, and the others are
   -- as before.

@@ -38,13 +38,7 @@ module _ {F X : Type 0} (R : F → X → X → F → Type 0) where
 
     -- This call writes the item where it is.
     pub one_updated : (y : X) (h : F) → R f (get_or ys i d) y h → UpdatedSoFar R f0 h xs (set ys i y) (i + 1)
-    one_updated y h call =
-        let run = updated_push f0 (take i xs) (take i ys) f (get_or xs i d) y h so_far.run (subst (λ x. R f x y h) next_and_rest.0 call) in
-        record {
-          len = length-set ys i y ∙ so_far.len;
-          rest = drop-set-lt (i + 1) ys i y (omega arith) ∙ next_and_rest.1;
-          run = subst (λ t. Updated R f0 t (take (i + 1) (set ys i y)) h) (sym (take_more xs i d l)) (subst (λ t. Updated R f0 (take i xs ++ get_or xs i d ∷ []) t h) (sym (take_more_set ys i y still_within)) run);
-        }
+    one_updated y h call = grind (arith, updated_push, next_and_rest, length-set, drop-set-lt, take_more, take_more_set, still_within)
 
     -- The list with one item written.
     pub written_split : (y : X) → set ys i y ≡ take i ys ++ y ∷ drop (i + 1) xs

@@ -1,7 +1,7 @@
 -- At which indices elements and queries find their match after a change, in the words of contracts.
 use Rattle.std.specs.{Cmp.IsEquivalence, List.AllByRecursion, List.IsDistinct, Map.IsKeyTest, Borrow.Bor, List.list_any}
 use Rattle.std.specs.Prelude.{IfSome, IfOk, Err, Ok, Result, nat_eq, nat_lt, option_copied}
-use Rattle.std.proofs.Common.{◌≡◌, ◌∙◌, ◌++◌, ◌<◌, ◌-◌, ◌≤◌, ℕ, suc, zero, Bool, true, false, List, [], ◌∷◌, None, Option, Some, ap, arith, cond, drop, get_or, get_or-take, inl, inr, length, length-set, option_map, position, refl, remove, set, slice_get, swap, sym, take, true≢false, is_some}
+use Rattle.std.proofs.Common.{◌≡◌, ◌∙◌, ◌++◌, ◌<◌, ◌-◌, ◌≤◌, ℕ, suc, zero, Bool, true, false, List, [], ◌∷◌, None, Option, Some, ap, arith, cond, drop, get_or, get_or-take, inl, inr, length, length-set, option_map, position, refl, remove, set, slice_get, swap, sym, take, is_some}
 use Rattle.std.proofs.lemmas.Bool.{cases_Bool, cases_lt, le-ltb, lt-ltb, ltb-true}
 use Rattle.std.proofs.lemmas.Grind.{get_or-set_at}
 use Rattle.std.proofs.lemmas.List.{length-take-le}
@@ -29,15 +29,7 @@ module _ {T : Type 0} (test : T → Bool) where
   module _ (eq : T → T → Bool) (o : IsEquivalence eq) (respects : IsKeyTest eq test) where
     -- Equal elements match the same.
     same_test : (x y : T) → eq x y ≡ true → test y ≡ test x
-    same_test x y e =
-        elim (cases_Bool (test x)) [
-          | inl h ↦ respects x y h ∙ e ∙ sym h
-          | inr n ↦
-              elim (cases_Bool (test y)) [
-                | inl h ↦ absurd (true≢false (sym (respects y x h ∙ o.symm y x ∙ e) ∙ n))
-                | inr m ↦ m ∙ sym n
-              ]
-        ]
+    same_test x y e = grind (arith, cases_Bool)
 
     -- An element that replaces an equal one does not change the index of a match.
     position_put : (s : List T) (x : T) (i : ℕ) → position test s ≡ Some i → position test (put_item eq s x) ≡ Some i
@@ -50,12 +42,9 @@ module _ {T : Type 0} (test : T → Bool) where
 
     -- No later element of a distinct list matches what its first element matches.
     misses : (y : T) (ys : List T) → test y ≡ true → AllByRecursion (λ z. eq y z ≡ false) ys → (i : ℕ) (x : T) → slice_get ys i ≡ Some x → test x ≡ true → ⊥
-    misses y [] h apart i x at hit = none-some x at
-    misses y (z ∷ zs) h apart zero x at hit =
-        let f : Some z ≡ Some x = at in
-        let same : z ≡ x = cc in
-        true≢false (sym hit ∙ sym (ap test same) ∙ respects y z h ∙ apart.0)
-    misses y (z ∷ zs) h apart (suc i) x at hit = misses y zs h apart.1 i x at hit
+    misses y [] h apart i x at hit = grind (arith, none-some)
+    misses y (z ∷ zs) h apart zero x at hit = grind (arith, none-some)
+    misses y (z ∷ zs) h apart (suc i) x at hit = grind (arith, none-some, (misses y zs h apart.1 i x at hit))
 
     -- In a distinct list, an element that matches a query is the first that does.
     pub position_own : (s : List T) → IsDistinct eq s → (i : ℕ) (x : T) → slice_get s i ≡ Some x → test x ≡ true → position test s ≡ Some i
@@ -129,12 +118,9 @@ module _ {T : Type 0} where
 
   -- An item is read exactly below the length.
   is_some_slice_get : (s : List T) (i : ℕ) → is_some (slice_get s i) ≡ nat_lt i (length s)
-  is_some_slice_get [] i = sym (le-ltb i 0 (omega arith))
-  is_some_slice_get (x ∷ xs) zero = sym (lt-ltb 0 (suc (length xs)) (omega arith))
-  is_some_slice_get (x ∷ xs) (suc i) = is_some_slice_get xs i ∙ elim (cases_lt i (length xs)) [
-    | inl l ↦ lt-ltb i (length xs) l ∙ sym (lt-ltb (suc i) (suc (length xs)) (omega (arith, l)))
-    | inr m ↦ le-ltb i (length xs) m ∙ sym (le-ltb (suc i) (suc (length xs)) (omega (arith, m)))
-  ]
+  is_some_slice_get [] i = grind (arith, le-ltb, lt-ltb, cases_lt)
+  is_some_slice_get (x ∷ xs) zero = grind (arith, le-ltb, lt-ltb, cases_lt)
+  is_some_slice_get (x ∷ xs) (suc i) = grind (arith, le-ltb, lt-ltb, cases_lt, (is_some_slice_get xs i))
 
   pub found_by_reference : (s : List T) (i : ℕ) (found : Option (Bor T)) → option_copied found ≡ slice_get s i → is_some found ≡ nat_lt i (length s)
   found_by_reference s i None e = ap is_some e ∙ is_some_slice_get s i
@@ -176,24 +162,14 @@ module _ {T : Type 0} (s r : List T) where
   present_in_front n e test i h l = list_any_position test r ∙ ap is_some (indices_of_front n e test i h l)
 
   pub items_shift : (i : ℕ) → r ≡ remove s i → ShiftsItems i s r
-  items_shift i e = record {
-    before = λ j l. ap (λ l. slice_get l j) e ∙ items_before_removal s i j l;
-    after = λ j l. ap (λ l. slice_get l j) e ∙ items_after_removal s i j l ∙ ap (slice_get s) (omega arith);
-  }
+  items_shift i e = grind (arith, items_before_removal, items_after_removal)
 
 module _ {T : Type 0} (eq : T → T → Bool) (o : IsEquivalence eq) (s r : List T) where
   pub indices_of_put : (x : T) → r ≡ put_item eq s x → KeepsItemIndices eq s r
-  indices_of_put x e = record {
-    items = λ q i h. ap (position (eq q)) e ∙ position_put (eq q) eq o (o.congr q) s x i h;
-    queries = λ test respects i h. ap (position test) e ∙ position_put test eq o respects s x i h;
-  }
+  indices_of_put x e = grind (arith, position_put)
 
   pub index_moved : (i j : ℕ) → slice_get r j ≡ slice_get s i → IsDistinct eq r → MovesItemIndex eq i j s r
-  index_moved i j at d = record {
-    at = at;
-    items = λ q h. position_moved (eq q) eq o (o.congr q) s r i j at d h;
-    queries = λ test respects h. position_moved test eq o respects s r i j at d h;
-  }
+  index_moved i j at d = grind (arith, position_moved)
 
 -- The lemmas for the clauses `indices` of calls that append and remove at the end.
 pub ruleset at_end = (indices_stay, indices_appended, indices_of_front, present_in_front)

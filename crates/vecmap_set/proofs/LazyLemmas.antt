@@ -7,7 +7,7 @@ use Rattle.std.specs.Iterator.{UpTo, YieldsFirstRef, YieldsLastRef, at_most}
 use Rattle.std.specs.Iterator.Runs.{YieldsRefsInOrder, YieldsRefsInReverse}
 use Rattle.std.specs.List.{filter}
 use Rattle.std.specs.Option.{IfSome, SomeIff}
-use Rattle.vecmap_set.specs.Lazy.{ExcludesAll, ExcludesFirst, ExcludesLast, Filtered, JoinsAll, JoinsFirst, JoinsLast, Parts, lacks_item, symmetric_parts, symmetric_rest, union_parts, union_rest}
+use Rattle.vecmap_set.specs.Lazy.{ExcludesAll, ExcludesFirst, ExcludesLast, Filtered, JoinsAll, JoinsFirst, JoinsLast, Parts, symmetric_parts, symmetric_rest, union_parts, union_rest}
 
 module _ {S T : Type 0} (next next_back : S → Option (Bor T) → S → Type 0) (rest : S → List T) where
   -- Repeated calls return what is left, in order or in reverse, if each call takes the first or the last of it.
@@ -22,15 +22,10 @@ length_filter p xs = omega (arith, length-filter_both p (λ x. not (p x)) (λ x.
 
 -- The same for two parts.
 pub length_union_rest : {T : Type 0} (eq : T → T → Bool) (s : Parts (List T) (Filtered T)) → length (union_rest eq s) ≤ length s.first + length s.second.ahead
-length_union_rest eq s =
-    let kept = lacks_item eq s.second.other in
-    omega (arith, length-append s.first (filter kept s.second.ahead), length_filter kept s.second.ahead)
+length_union_rest eq s = grind (arith, length-append, length_filter)
 
 pub length_symmetric_rest : {T : Type 0} (eq : T → T → Bool) (s : Parts (Filtered T) (Filtered T)) → length (symmetric_rest eq s) ≤ length s.first.ahead + length s.second.ahead
-length_symmetric_rest eq s =
-    let one = lacks_item eq s.first.other in
-    let two = lacks_item eq s.second.other in
-    omega (arith, length-append (filter one s.first.ahead) (filter two s.second.ahead), length_filter one s.first.ahead, length_filter two s.second.ahead)
+length_symmetric_rest eq s = grind (arith, length-append, length_filter)
 
 -- What `union` and `symmetric_difference` borrow. Both parts fit a `usize` together if each has fewer items than half
 -- of its values.

@@ -1,5 +1,5 @@
 -- What is taken from an iterator until nothing is left is the list that it had. By induction on the taken items.
-use Rattle.std.proofs.Common.{◌≡◌, ◌+◌, ◌≤◌, ◌&&◌, ◌||◌, ◌⊎◌, suc, Bool, Contains, IsTrue, List, [], ◌∷◌, ◌++◌, Option, None, Some, ap, arith, false, filter, if◌then◌else◌, inl, inr, length, length-append, not, refl, sym, subst, true, true≢false, ◌∙◌, map}
+use Rattle.std.proofs.Common.{◌≡◌, ◌+◌, ◌≤◌, ◌&&◌, ◌||◌, ◌⊎◌, Bool, Contains, IsTrue, List, [], ◌∷◌, ◌++◌, Option, Some, ap, arith, false, filter, inl, inr, length, length-append, not, sym, subst, true, ◌∙◌, map}
 use Rattle.std.proofs.lemmas.{Bool.cases_Bool, List.append-nil, List.map_push, List.Elements.AllZip-push, List.Folds.list_any-append}
 use Rattle.std.specs.{Borrow.Bor, Cmp.IsEquivalence, Iterator.Yields, Iterator.YieldsFirstRef, List.IsDistinct, List.list_any, Map.IsKeyTest, Map.Iter.deref, Set.is_member}
 use Rattle.vecmap_base.specs.{Clones.AreClones, Items.both, Items.only}
@@ -22,19 +22,11 @@ module _ {S T : Type 0} (steps : S → Option (Bor T) → S → Type 0) (rest : 
       → ((x y : T) → Contains (list u v) x → C x y → IsTrue (eq x y)) → DrainsIntoClones steps C s made
       → ((s : S) (r : Option (Bor T)) (t : S) → steps s r t → YieldsFirstRef rest s r t)
       → AreClones C (list u v) made × IsDistinct eq made
-  operator_clones o {C} list apart {made = made} e left right left_apart right_apart same d gives =
-      let all = sym (taken gives _ d.1.1.0 d.0 d.1.1.1 ∙ ap (λ l. map deref d.0 ++ l) (gives _ None d.1.0 d.1.1.2).0 ∙ append-nil _) ∙ e ∙ (λ j. list (left j) (right j)) in
-      let clones = subst (λ m. AreClones C m made) all d.2 in
-      (clones, distinct_clones_of _ o C _ made same clones (subst (IsDistinct _) (λ j. list (left j) (right j)) (apart _ _ left_apart right_apart)))
+  operator_clones o {C} list apart {made = made} e left right left_apart right_apart same d gives = grind (arith, taken, append-nil, distinct_clones_of)
 
 module _ {T : Type 0} (eq : T → T → Bool) (o : IsEquivalence eq) where
   pub is_member_union : (a b : List T) (x : T) → is_member eq (union_of eq a b) x ≡ (is_member eq a x || is_member eq b x)
-  is_member_union a b x = list_any-append (eq x) a (only eq b a) ∙ ap (λ c. is_member eq a x || c) (is_member_only eq o b a x) ∙ by (is_member eq a x) (is_member eq b x)
-    where
-      by : (c d : Bool) → (c || (d && not c)) ≡ (c || d)
-      by true d = refl
-      by false true = refl
-      by false false = refl
+  is_member_union a b x = grind (arith, list_any-append, is_member_only)
 
   -- An element is in the symmetric difference if it is in exactly one of the two lists.
   pub is_member_symmetric_difference : (a b : List T) (x : T) → is_member eq (symmetric_difference_of eq a b) x ≡ ((is_member eq a x && not (is_member eq b x)) || (is_member eq b x && not (is_member eq a x)))
@@ -42,24 +34,12 @@ module _ {T : Type 0} (eq : T → T → Bool) (o : IsEquivalence eq) where
 
   -- A query matches an element of a list, or none.
   match_or_none : (test : T → Bool) (l : List T) → ((x : T) × (test x ≡ true)) ⊎ (list_any test l ≡ false)
-  match_or_none test [] = inr refl
-  match_or_none test (x ∷ xs) =
-      elim (cases_Bool (test x)) [
-        | inl h ↦ inl (x, h)
-        | inr n ↦
-            elim (match_or_none test xs) [
-              | inl found ↦ inl found
-              | inr none ↦ inr ((λ i. n i || none i))
-            ]
-      ]
+  match_or_none test [] = grind (arith, cases_Bool)
+  match_or_none test (x ∷ xs) = grind (arith, cases_Bool, (match_or_none test xs))
 
   filter_short : (p : T → Bool) (xs : List T) → length (filter p xs) ≤ length xs
-  filter_short p [] = omega arith
-  filter_short p (x ∷ xs) = by (p x) (filter_short p xs)
-    where
-      by : (b : Bool) → length (filter p xs) ≤ length xs → length (if b then x ∷ filter p xs else filter p xs) ≤ suc (length xs)
-      by true l = omega (arith, l)
-      by false l = omega (arith, l)
+  filter_short p [] = grind (arith)
+  filter_short p (x ∷ xs) = grind (arith, (filter_short p xs))
 
   -- The list `r` has no more elements than both lists, and no more than `a` if it takes none from `b` alone.
   abbrev pub Fits : (Bool → Bool → Bool) → List T → List T → List T → Type 0
@@ -72,15 +52,10 @@ module _ {T : Type 0} (eq : T → T → Bool) (o : IsEquivalence eq) where
   fits_only combine a b = let short = filter_short (λ x. not (is_member eq b x)) a in (omega (arith, short), λ e. short)
 
   pub fits_union : (combine : Bool → Bool → Bool) → combine false true ≡ true → (a b : List T) → Fits combine a b (union_of eq a b)
-  fits_union combine takes a b =
-      let short = filter_short (λ x. not (is_member eq a x)) b in
-      (omega (arith, length-append a (only eq b a), short), λ e. absurd (true≢false (sym takes ∙ e)))
+  fits_union combine takes a b = grind (arith, filter_short, length-append)
 
   pub fits_symmetric_difference : (combine : Bool → Bool → Bool) → combine false true ≡ true → (a b : List T) → Fits combine a b (symmetric_difference_of eq a b)
-  fits_symmetric_difference combine takes a b =
-      let left = filter_short (λ x. not (is_member eq b x)) a in
-      let right = filter_short (λ x. not (is_member eq a x)) b in
-      (omega (arith, length-append (only eq a b) (only eq b a), left, right), λ e. absurd (true≢false (sym takes ∙ e)))
+  fits_symmetric_difference combine takes a b = grind (arith, filter_short, length-append)
 
   -- What is said of elements is said of queries: a query that matches something matches the equals of one element.
   pub combined : (combine : Bool → Bool → Bool) → combine false false ≡ false → (a b r : List T) → ((q : T) → is_member eq r q ≡ combine (is_member eq a q) (is_member eq b q)) → Fits combine a b r → CombinesMembers eq combine a b r

@@ -1,7 +1,7 @@
 -- What queries find after a change of a list, in the words of contracts.
 use Rattle.std.specs.{Borrow.Bor, List.list_any, List.Sorted.IsPermutation}
 use Rattle.std.specs.Prelude.{IfSome, option_copied}
-use Rattle.std.proofs.Common.{◌≡◌, ◌∙◌, ◌++◌, ◌<◌, ◌||◌, ℕ, Bool, true, false, IsTrue, List, [], ◌∷◌, None, Option, Some, ap, cond, if◌then◌else◌, length, position, refl, remove, reverse, slice_get, subst, swap, sym}
+use Rattle.std.proofs.Common.{arith, ◌≡◌, ◌∙◌, ◌<◌, ◌||◌, ℕ, Bool, true, false, IsTrue, List, [], ◌∷◌, None, Option, Some, ap, length, position, refl, remove, reverse, slice_get, subst, swap, sym}
 use Rattle.std.proofs.lemmas.List.Folds.{list_any-append}
 use Rattle.std.proofs.lemmas.List.Sorted.{IsPermutation-remove, IsPermutation-reverse, IsPermutation-swap, IsPermutation-swap_remove, length_permutation, list_any-IsPermutation}
 use Rattle.std.proofs.lemmas.Option.{get_or_from_slice_get, none-some, slice_get_within}
@@ -62,33 +62,11 @@ module _ {T : Type 0} (eq : T → T → Bool) (f : T → Bool) (same : (x y : T)
       by false s g more = ap (λ b. f y || b) (more g) ∙ or_true (f y)
 
   any_added : (s : List T) (x : T) → list_any f (add eq s x) ≡ (f x || list_any f s)
-  any_added s x = by (is_member eq s x) refl
-    where
-      there : (b : Bool) → f x ≡ b → is_member eq s x ≡ true → list_any f s ≡ (b || list_any f s)
-      there true e h = any_there s x h e
-      there false e h = refl
-
-      by : (b : Bool) → is_member eq s x ≡ b → list_any f (if b then s else s ++ x ∷ []) ≡ (f x || list_any f s)
-      by true h = there (f x) refl h
-      by false h = list_any-append f s (x ∷ []) ∙ or_swapped (list_any f s) (f x)
+  any_added s x = grind (arith, any_there, list_any-append, or_swapped)
 
   any_put : (s : List T) (x : T) → list_any f (put_item eq s x) ≡ (f x || list_any f s)
-  any_put [] x = refl
-  any_put (y ∷ ys) x = ap (list_any f) (put_item_cons eq y ys x) ∙ by (eq x y) refl (any_put ys x)
-    where
-      twice : (a b : Bool) → (a || b) ≡ (a || (a || b))
-      twice true b = refl
-      twice false b = refl
-
-      exchanged : (a b c : Bool) → (a || (b || c)) ≡ (b || (a || c))
-      exchanged true true c = refl
-      exchanged true false c = refl
-      exchanged false true c = refl
-      exchanged false false c = refl
-
-      by : (b : Bool) → eq x y ≡ b → list_any f (put_item eq ys x) ≡ (f x || list_any f ys) → list_any f (cond b (x ∷ ys) (y ∷ put_item eq ys x)) ≡ (f x || (f y || list_any f ys))
-      by true e more = twice (f x) (list_any f ys) ∙ ap (λ b. f x || (b || list_any f ys)) (sym (same x y e))
-      by false e more = ap (λ b. f y || b) more ∙ exchanged (f y) (f x) (list_any f ys)
+  any_put [] x = grind (arith, put_item_cons)
+  any_put (y ∷ ys) x = grind (arith, put_item_cons, (any_put ys x))
 
 module _ {T : Type 0} (eq : T → T → Bool) (s r : List T) (x : T) where
   pub any_of_add : r ≡ add eq s x → (f : T → Bool) → ((x y : T) → eq x y ≡ true → f y ≡ f x) → list_any f r ≡ (f x || list_any f s)
@@ -100,11 +78,7 @@ module _ {T : Type 0} (eq : T → T → Bool) (s r : List T) (x : T) where
 -- The clause `reordered`.
 module _ {T : Type 0} (s r : List T) where
   pub items_reordered : IsPermutation s r → IsReorderedItems s r
-  items_reordered p = record {
-    matches = λ test. sym (list_any-IsPermutation test s r p);
-    len = length_permutation s r p;
-    equal = λ eq o. same_items eq o r s (λ x. sym (list_any-IsPermutation (eq x) s r p));
-  }
+  items_reordered p = grind (arith, list_any-IsPermutation, length_permutation, same_items)
 
   pub items_reordered_by_reverse : r ≡ reverse s → IsReorderedItems s r
   items_reordered_by_reverse e = items_reordered (subst (IsPermutation s) (sym e) (IsPermutation-reverse s))

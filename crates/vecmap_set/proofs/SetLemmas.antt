@@ -1,7 +1,7 @@
 -- What calls leave in a set is distinct. Of clones the idea is: each is equal to its original, and the originals are
 -- distinct.
-use Rattle.std.proofs.Common.{◌≡◌, ℕ, Bool, Contains, IsTrue, List, [], ◌∷◌, ◌++◌, drop, length, reverse, take, true}
-use Rattle.std.specs.{Cmp.IsEquivalence, Cmp.both_ways, List.IsDistinct, Set.is_member}
+use Rattle.std.proofs.Common.{arith, ◌≡◌, ℕ, Bool, Contains, IsTrue, List, [], ◌∷◌, ◌++◌, drop, length, reverse, take, true}
+use Rattle.std.specs.{Cmp.IsEquivalence, List.IsDistinct, Set.is_member}
 use Rattle.std.proofs.lemmas.List.Elements.{Contains-append_left, Contains-append_right, Contains-push}
 use Rattle.std.proofs.lemmas.{List.Sorted.IsPermutation-reverse, Map.Keys.IsDistinct-push}
 use Rattle.vecmap_base.specs.{Clones.AreClones, Equality.is_within}
@@ -33,9 +33,7 @@ module _ {T : Type 0} (eq : T → T → Bool) where
 module _ {T : Type 0} (eq : T → T → Bool) (o : IsEquivalence eq) where
   -- Of two distinct lists of one length, one within the other, both have the same elements.
   pub members_of_equal : (a b : List T) → IsDistinct eq a → length a ≡ length b → is_within eq a b ≡ true → (q : T) → is_member eq a q ≡ is_member eq b q
-  members_of_equal a b d n e q =
-      let there = within_from_test eq o a b e in
-      both_ways _ _ (there q) (within_back eq o a b d n there q)
+  members_of_equal a b d n e q = grind (arith, within_from_test, within_back)
 
 -- The lemmas for the goals of calls that change a set.
 pub ruleset distinct_changes = (distinct_adds, distinct_drop, distinct_first, distinct_none, IsDistinct-push, distinct_take, distinct_reversed)

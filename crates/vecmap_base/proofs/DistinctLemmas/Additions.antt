@@ -1,7 +1,6 @@
 -- Insertions that keep a list distinct.
-use Rattle.std.specs.Set.{is_member}
 use Rattle.std.specs.{Cmp.IsEquivalence, List.IsDistinct, List.AllByRecursion, List.list_any}
-use Rattle.std.proofs.Common.{◌≡◌, ℕ, ◌<◌, Bool, true, false, ◌||◌, List, [], ◌∷◌, ◌++◌, if◌then◌else◌, length, slice_set, suc, zero, refl, sym, ◌∙◌, subst, get_or, true≢false, arith}
+use Rattle.std.proofs.Common.{◌≡◌, ℕ, ◌<◌, Bool, true, false, ◌||◌, List, [], ◌∷◌, ◌++◌, length, slice_set, suc, zero, sym, ◌∙◌, subst, get_or, true≢false, arith}
 use Rattle.std.proofs.lemmas.{Bool.false_from_ne_true, Bool.or_left, Bool.or_right, List.append-nil, List.append_assoc, List.Folds.list_any-append}
 use Rattle.std.proofs.lemmas.{Map.Keys.IsDistinct-head, Map.Keys.IsDistinct-tail, Map.Keys.IsDistinct-push, Map.Steps.list_any_congr}
 use Rattle.vecmap_base.specs.Items.{add, adds}
@@ -40,11 +39,7 @@ module _ {T : Type 0} (eq : T → T → Bool) (o : IsEquivalence eq) where
   distinct_replace (x ∷ xs) (suc i) y l e d = (all_set (λ z. eq x z ≡ false) xs i y (apart_at x xs i y (omega arith) e d.0) d.0, distinct_replace xs i y (omega arith) e d.1)
 
   pub distinct_add : (s : List T) (x : T) → IsDistinct eq s → IsDistinct eq (add eq s x)
-  distinct_add s x d = by (is_member eq s x) refl
-    where
-      by : (b : Bool) → is_member eq s x ≡ b → IsDistinct eq (if b then s else s ++ x ∷ [])
-      by true e = d
-      by false e = IsDistinct-push o s x d e
+  distinct_add s x d = grind (arith, IsDistinct-push)
 
   pub distinct_adds : (s xs : List T) → IsDistinct eq s → IsDistinct eq (adds eq s xs)
   distinct_adds s [] d = d

@@ -1,17 +1,16 @@
 -- The clones of distinct elements, each equal to its original, are distinct.
 use Rattle.std.specs.Set.{ClonesAreEqual}
 use Rattle.std.specs.{Cmp.IsEquivalence, List.IsDistinct, List.AllByRecursion}
-use Rattle.std.proofs.Common.{◌≡◌, Bool, false, List, [], ◌∷◌, sym, ◌∙◌}
+use Rattle.std.proofs.Common.{arith, ◌≡◌, Bool, false, List, [], ◌∷◌}
 use Rattle.vecmap_base.specs.Clones.{AreClones}
 
 module _ {T : Type 0} (eq : T → T → Bool) (o : IsEquivalence eq) where
   -- If an element is equal to none of a list, its clone is equal to none of the clones.
   all_clones : (C : T → T → Type 0) → ClonesAreEqual eq C → (x y : T) (xs ys : List T) → C x y → AreClones C xs ys → AllByRecursion (λ z. eq x z ≡ false) xs → AllByRecursion (λ z. eq y z ≡ false) ys
-  all_clones C same x y [] [] c k h = tt
-  all_clones C same x y [] (w ∷ ws) c k h = absurd k
-  all_clones C same x y (z ∷ zs) [] c k h = absurd k
-  all_clones C same x y (z ∷ zs) (w ∷ ws) c k h =
-      (sym (o.congr x y w (same x y c)) ∙ o.symm x w ∙ sym (o.congr z w x (same z w k.0)) ∙ o.symm z x ∙ h.0, all_clones C same x y zs ws c k.1 h.1)
+  all_clones C same x y [] [] c k h = grind (arith)
+  all_clones C same x y [] (w ∷ ws) c k h = grind (arith)
+  all_clones C same x y (z ∷ zs) [] c k h = grind (arith)
+  all_clones C same x y (z ∷ zs) (w ∷ ws) c k h = grind (arith, (all_clones C same x y zs ws c k.1 h.1))
 
   pub distinct_clones : (C : T → T → Type 0) → ClonesAreEqual eq C → (xs ys : List T) → AreClones C xs ys → IsDistinct eq xs → IsDistinct eq ys
   unfolding IsDistinct

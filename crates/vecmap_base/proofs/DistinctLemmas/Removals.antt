@@ -1,6 +1,6 @@
 -- What is left of a distinct list is distinct.
 use Rattle.std.specs.List.{between, IsDistinct, AllByRecursion, remove_range}
-use Rattle.std.proofs.Common.{◌≡◌, ℕ, ◌+◌, ◌≤◌, Bool, true, false, List, [], ◌∷◌, ◌++◌, drop, filter, if◌then◌else◌, remove, suc, take, sym, subst, arith}
+use Rattle.std.proofs.Common.{◌≡◌, ℕ, ◌+◌, ◌≤◌, Bool, false, List, [], ◌∷◌, ◌++◌, drop, filter, remove, suc, take, sym, subst, arith}
 use Rattle.std.proofs.lemmas.{List.take-append-drop, List.Edits.split_between, Map.Keys.IsDistinct-tail}
 use Rattle.vecmap_base.specs.Kept.{Kept}
 
@@ -46,38 +46,19 @@ module _ {T : Type 0} (eq : T → T → Bool) where
   -- What a retaining closure leaves that writes nothing: a list with only elements of the old one.
   module _ {F : Type 0} (R : F → T → Bool → T → F → Type 0) (keeps : (f g : F) (x y : T) (b : Bool) → R f x b y g → y ≡ x) where
     all_kept : (P : T → Type 0) (f g : F) (l m : List T) → Kept R f l m g → AllByRecursion P l → AllByRecursion P m
-    all_kept P f g [] m k h = subst (AllByRecursion P) (sym k.0) tt
-    all_kept P f g (x ∷ xs) m k h = subst (AllByRecursion P) (sym k.6) (by k.0 k.1 k.3 (subst P (sym (keeps f k.2 x k.1 k.0 k.4)) h.0) (all_kept P k.2 g xs k.3 k.5 h.1))
-      where
-        by : (b : Bool) (y : T) (ys : List T) → P y → AllByRecursion P ys → AllByRecursion P (if b then y ∷ ys else ys)
-        by true y ys p r = (p, r)
-        by false y ys p r = r
+    all_kept P f g [] m k h = grind (arith)
+    all_kept P f g (x ∷ xs) m k h = grind (arith, (all_kept P k.2 g xs k.3 k.5 h.1))
 
     pub distinct_kept : (f g : F) (l m : List T) → Kept R f l m g → IsDistinct eq l → IsDistinct eq m
     unfolding IsDistinct
-    distinct_kept f g [] m k d = subst (IsDistinct eq) (sym k.0) tt
-    distinct_kept f g (x ∷ xs) m k d =
-        let same = keeps f k.2 x k.1 k.0 k.4 in
-        let apart : AllByRecursion (λ z. eq k.1 z ≡ false) k.3 = subst (λ y. AllByRecursion (λ z. eq y z ≡ false) k.3) (sym same) (all_kept (λ z. eq x z ≡ false) k.2 g xs k.3 k.5 d.0) in
-        subst (IsDistinct eq) (sym k.6) (by k.0 k.1 k.3 apart (distinct_kept k.2 g xs k.3 k.5 d.1))
-      where
-        by : (b : Bool) (y : T) (ys : List T) → AllByRecursion (λ z. eq y z ≡ false) ys → IsDistinct eq ys → IsDistinct eq (if b then y ∷ ys else ys)
-        by true y ys a r = (a, r)
-        by false y ys a r = r
+    distinct_kept f g [] m k d = grind (arith, all_kept)
+    distinct_kept f g (x ∷ xs) m k d = grind (arith, all_kept, (distinct_kept k.2 g xs k.3 k.5 d.1))
 
   all_filter : (P : T → Type 0) (p : T → Bool) (xs : List T) → AllByRecursion P xs → AllByRecursion P (filter p xs)
-  all_filter P p [] h = tt
-  all_filter P p (x ∷ xs) h = by (p x) (all_filter P p xs h.1)
-    where
-      by : (b : Bool) → AllByRecursion P (filter p xs) → AllByRecursion P (if b then x ∷ filter p xs else filter p xs)
-      by true r = (h.0, r)
-      by false r = r
+  all_filter P p [] h = grind (arith)
+  all_filter P p (x ∷ xs) h = grind (arith, (all_filter P p xs h.1))
 
   pub distinct_filter : (p : T → Bool) (xs : List T) → IsDistinct eq xs → IsDistinct eq (filter p xs)
   unfolding IsDistinct
-  distinct_filter p [] d = tt
-  distinct_filter p (x ∷ xs) d = by (p x) (distinct_filter p xs d.1)
-    where
-      by : (b : Bool) → IsDistinct eq (filter p xs) → IsDistinct eq (if b then x ∷ filter p xs else filter p xs)
-      by true r = (all_filter (λ y. eq x y ≡ false) p xs d.0, r)
-      by false r = r
+  distinct_filter p [] d = grind (arith, all_filter)
+  distinct_filter p (x ∷ xs) d = grind (arith, all_filter, (distinct_filter p xs d.1))

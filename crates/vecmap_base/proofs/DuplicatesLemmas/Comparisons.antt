@@ -1,7 +1,7 @@
 -- The number of comparisons that a removal of duplicates makes.
 use Rattle.std.specs.Set.{is_member}
 use Rattle.std.specs.{Map.keys_of, Option.option_map_or}
-use Rattle.std.proofs.Common.{◌≡◌, ℕ, suc, ◌+◌, ◌<◌, ◌≤◌, Bool, true, false, List, [], ◌∷◌, ◌++◌, Option, None, Some, length, take, refl, sym, ap, ◌∙◌, subst, get_or, arith, inl, inr}
+use Rattle.std.proofs.Common.{◌≡◌, ℕ, ◌+◌, ◌<◌, ◌≤◌, Bool, true, false, List, [], ◌∷◌, ◌++◌, None, Some, length, take, sym, ap, ◌∙◌, get_or, arith}
 use Rattle.std.proofs.lemmas.{Bool.cases_Bool, List.length-take, List.length_push, List.map-append, List.take_more, List.Quantifiers.position-Some, Map.Entries.length-keys_of}
 use Rattle.vecmap_base.specs.{Items.add, Items.adds, Items.item_index, Pairs.index_of, Pairs.puts}
 use Rattle.vecmap_base.specs.Comparisons.{adds_cost, comparisons, cost, search_cost}
@@ -22,13 +22,7 @@ module _ {T : Type 0} (eq : T → T → Bool) where
   search_cost_at s x i y l e hit miss = search_cost_found s x i (position_at (eq x) s i y l e hit (position_none (eq x) (take i s) miss))
 
   search_cost_at_most : (s : List T) (x : T) → search_cost eq s x ≤ length s
-  search_cost_at_most s x = by (item_index eq s x) refl
-    where
-      by : (found : Option ℕ) → item_index eq s x ≡ found → option_map_or (λ j. j + 1) found (length s) ≤ length s
-      by None e = omega arith
-      by (Some i) e =
-          let within = (position-Some (eq x) s i x e).0 in
-          omega (arith, within)
+  search_cost_at_most s x = grind (arith, position-Some)
 
   -- One more addition.
   pub adds_cost_push : (s xs : List T) (x : T) → adds_cost eq s (xs ++ x ∷ []) ≡ adds_cost eq s xs + search_cost eq (adds eq s xs) x
@@ -39,37 +33,15 @@ module _ {T : Type 0} (eq : T → T → Bool) where
   comparisons_more xs i d l = ap (comparisons eq) (take_more xs i d l) ∙ adds_cost_push [] (take i xs) (get_or xs i d)
 
   adds_cost_at_most : (s xs : List T) → adds_cost eq s xs + cost (length s) ≤ cost (length s + length xs)
-  adds_cost_at_most s [] =
-      let e : length s + 0 ≡ length s = omega arith in
-      rw e (omega arith)
-  adds_cost_at_most s (x ∷ xs) =
-      let n = length s in
-      let m = length xs in
-      let one_on : n + suc m ≡ n + m + 1 = omega arith in
-      elim (cases_Bool (is_member eq s x)) [
-        | inl h ↦
-            let rest : adds_cost eq (add eq s x) xs + cost n ≤ cost (n + m) = rw (add_present eq s x h) (adds_cost_at_most s xs) in
-            rw one_on (omega (arith, rest, search_cost_at_most s x, cost_more (n + m)))
-        | inr h ↦
-            let long : length (s ++ x ∷ []) ≡ n + 1 = length_push s x in
-            let two_on : n + 1 + m ≡ n + m + 1 = omega arith in
-            let more : adds_cost eq (s ++ x ∷ []) xs + cost (n + 1) ≤ cost (n + m + 1) =
-            subst (λ k. adds_cost eq (s ++ x ∷ []) xs + cost (n + 1) ≤ cost k) two_on (subst (λ k. adds_cost eq (s ++ x ∷ []) xs + cost k ≤ cost (k + m)) long (adds_cost_at_most (s ++ x ∷ []) xs)) in
-            rw (one_on, add_absent eq s x h) (omega (arith, more, search_cost_at_most s x, cost_more n))
-      ]
+  adds_cost_at_most s [] = grind (arith, cases_Bool, add_present, search_cost_at_most, cost_more, length_push, add_absent)
+  adds_cost_at_most s (x ∷ xs) = grind (arith, cases_Bool, add_present, search_cost_at_most, cost_more, length_push, add_absent, (adds_cost_at_most s xs), (adds_cost_at_most (s ++ x ∷ []) xs))
 
   pub comparisons_at_most : (xs : List T) → comparisons eq xs ≤ cost (length xs)
-  comparisons_at_most xs =
-      let e : 0 + length xs ≡ length xs = omega arith in
-      let f = rw e at (adds_cost_at_most [] xs) in
-      omega (arith, f)
+  comparisons_at_most xs = grind (arith, adds_cost_at_most)
 
   -- The comparisons of the first `i` items, and at most `i` more for the next one.
   pub comparisons_below : (xs : List T) (i : ℕ) → i < length xs → comparisons eq (take i xs) + i ≤ cost (length xs)
-  comparisons_below xs i l =
-      let long : length (take i xs) ≡ i = omega (arith, length-take i xs) in
-      let f = rw long at (comparisons_at_most (take i xs)) in
-      omega (arith, f, cost_below i (length xs) l)
+  comparisons_below xs i l = grind (arith, length-take, comparisons_at_most, cost_below)
 
 -- The same of the keys of pairs.
 module _ {K V : Type 0} (eq : K → K → Bool) where
@@ -87,12 +59,7 @@ module _ {K V : Type 0} (eq : K → K → Bool) where
       ∙ ap (λ ks. comparisons eq (keys_of (take i l)) + search_cost eq ks (get_or l i d).0) (sym (keys_of_puts eq [] (take i l)))
 
   pub key_comparisons_at_most : (l : List (K × V)) → comparisons eq (keys_of l) ≤ cost (length l)
-  key_comparisons_at_most l =
-      let f = rw (length-keys_of l) at (comparisons_at_most eq (keys_of l)) in
-      f
+  key_comparisons_at_most l = grind (arith, length-keys_of, comparisons_at_most)
 
   pub key_comparisons_below : (l : List (K × V)) (i : ℕ) → i < length l → comparisons eq (keys_of (take i l)) + i ≤ cost (length l)
-  key_comparisons_below l i h =
-      let long : length (take i l) ≡ i = omega (arith, length-take i l) in
-      let f = rw long at (key_comparisons_at_most (take i l)) in
-      omega (arith, f, cost_below i (length l) h)
+  key_comparisons_below l i h = grind (arith, length-take, key_comparisons_at_most, cost_below)

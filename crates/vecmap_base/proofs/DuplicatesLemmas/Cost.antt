@@ -4,25 +4,16 @@ use Rattle.std.proofs.lemmas.List.{length_push}
 use Rattle.vecmap_base.specs.Comparisons.{cost}
 
 twice_more : (n : ℕ) → (n + 1) * n ≡ n * (n - 1) + 2 * n
-twice_more zero = refl
-twice_more (suc n) =
-    let e : suc n - 1 ≡ n = omega arith in
-    let f : (suc n + 1) * suc n ≡ suc n * n + 2 * suc n = omega arith in
-    rw e f
+twice_more zero = grind (arith)
+twice_more (suc n) = grind (arith)
 
 -- One more item is compared with each of the `n` before it.
 pub cost_more : (n : ℕ) → cost (n + 1) ≡ cost n + n
-cost_more n =
-    let e : n + 1 - 1 ≡ n = omega arith in
-    rw e (omega (arith, twice_more n))
+cost_more n = grind (arith, twice_more)
 
 cost_grows : (m n k : ℕ) → k ≡ m + n → cost m ≤ cost k
-cost_grows m zero k e =
-    let f : k ≡ m = omega arith in
-    rw f (omega arith)
-cost_grows m (suc n) k e =
-    let f : k ≡ m + n + 1 = omega arith in
-    rw f (omega (arith, cost_more (m + n), cost_grows m n (m + n) refl))
+cost_grows m zero k e = grind (arith, cost_more)
+cost_grows m (suc n) k e = grind (arith, cost_more, (cost_grows m n (m + n) refl))
 
 -- After `m` of `n` items, the bound leaves enough comparisons for the next one.
 pub cost_below : (m n : ℕ) → m < n → cost m + m ≤ cost n

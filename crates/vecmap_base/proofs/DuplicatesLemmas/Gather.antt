@@ -1,4 +1,5 @@
 -- The steps of a gathering: two elements, or the values of two pairs, are swapped.
+use Rattle.std.proofs.lemmas.Grind.{common_steps}
 use Rattle.std.specs.{List.SwappedAt, Map.keys_of, Map.values_of}
 use Rattle.std.proofs.Common.{◌≡◌, ℕ, ◌+◌, ◌-◌, ◌<◌, ◌≤◌, Bool, Some, List, [], ◌∷◌, ◌++◌, drop, length, swap, take, set, get_or, sym, ap, ◌∙◌, arith}
 use Rattle.std.proofs.Math.Seq.{take-set-lt}
@@ -43,9 +44,7 @@ module _ {X : Type 0} where
 
   -- If two lists are the same from `i` on, they have the same element at `i`, and the same rest after it.
   pub rest_more : (xs ys : List X) (i : ℕ) (d : X) → i < length xs → i < length ys → drop i ys ≡ drop i xs → (get_or ys i d ≡ get_or xs i d) × (drop (i + 1) ys ≡ drop (i + 1) xs)
-  rest_more xs ys i d l m e =
-      let f : get_or ys i d ∷ drop (i + 1) ys ≡ get_or xs i d ∷ drop (i + 1) xs = sym (drop_more ys i d m) ∙ e ∙ drop_more xs i d l in
-      (cc, cc)
+  rest_more xs ys i d l m e = grind (arith, common_steps, drop_more)
 
 module _ {K V : Type 0} where
   -- The value at `i` in the front and the value at 0 in the back are swapped.

@@ -59,16 +59,7 @@ module _ {X : Type 0} (same : X → X → Bool) (o : IsEquivalence same) where
   agree_everywhere (x ∷ xs) a b h = and_from _ _ (eq-eqb (many a x) (many b x) (h x)) (agree_everywhere xs a b h)
 
   pub counts_from_test : (a b : List X) → as_often a b ≡ true → SameCounts a b
-  counts_from_test a b e x =
-      let both = and_parts (all_agree a a b) (all_agree b a b) e in
-      elim (cases_Bool (list_any (same x) a)) [
-        | inl h ↦ agreed a a b x both.0 h
-        | inr h ↦
-            elim (cases_Bool (list_any (same x) b)) [
-              | inl i ↦ agreed b a b x both.1 i
-              | inr i ↦ many_absent a x h ∙ sym (many_absent b x i)
-            ]
-      ]
+  counts_from_test a b e x = grind (arith, and_parts, all_agree, cases_Bool, agreed, many_absent)
 
   pub test_from_counts : (a b : List X) → SameCounts a b → as_often a b ≡ true
   test_from_counts a b h = and_from _ _ (agree_everywhere a a b h) (agree_everywhere b a b h)
@@ -106,14 +97,7 @@ module _ {X : Type 0} (same : X → X → Bool) (o : IsEquivalence same) where
       }
 
   found : (x : X) (xs b : List X) → many (x ∷ xs) x ≡ many b x → list_any (same x) b ≡ true
-  found x xs b e =
-      elim (cases_Bool (list_any (same x) b)) [
-        | inl h ↦ h
-        | inr h ↦
-            let none : many b x ≡ 0 = many_absent b x h in
-            let some : many (x ∷ xs) x ≡ 1 + many xs x = many_cons x xs x ∙ ap (λ c. cond c 1 0 + many xs x) (o.refl x) in
-            absurd (omega (arith, e, none, some))
-      ]
+  found x xs b e = grind (arith, cases_Bool, many, many_absent, many_cons)
 
   -- The pigeonhole principle: in two lists of one length, equal counts of the elements of one list imply that all
   -- counts are equal.
@@ -141,6 +125,4 @@ module _ {X : Type 0} (same : X → X → Bool) (o : IsEquivalence same) where
 
   -- For lists of one length, it is enough to compare the counts of the elements of one list.
   pub settled_by_half : (a b : List X) → length a ≡ length b → as_often a b ≡ all_agree a a b
-  settled_by_half a b n =
-      both_ways _ _ (λ e. (and_parts (all_agree a a b) (all_agree b a b) e).0)
-      (λ e. test_from_counts a b (settled a b n (λ x h. agreed a a b x e h)))
+  settled_by_half a b n = grind (arith, and_parts, all_agree, test_from_counts, settled, agreed)

@@ -2,7 +2,7 @@
 use Rattle.std.specs.Prelude.{◌≡◌, ℕ, zero, suc, Bool, true, List, [], ◌∷◌, drop, take, refl}
 use Rattle.std.specs.Cmp.{IsEquivalence, IsPartialEquivalence, both_ways}
 use Rattle.std.specs.List.{AllZip}
-use Rattle.std.proofs.Common.{cond, ap, ◌∙◌, arith}
+use Rattle.std.proofs.Common.{◌∙◌, arith}
 use Rattle.std.proofs.lemmas.Bool.{and_from, and_parts}
 use Rattle.vecmap_base.specs.Equality.{has_same_counts, same_pair}
 use Rattle.vecmap_base.proofs.EqualityLemmas.Counts.{SameCounts, many_cons, counts_from_test, test_from_counts}
@@ -10,14 +10,10 @@ use Rattle.vecmap_base.proofs.EqualityLemmas.Partial.{alike, all_reflexive, equa
 
 module _ {X : Type 0} (same : X → X → Bool) (o : IsEquivalence same) where
   same_counts-cons : (x y : X) (a b : List X) → same x y ≡ true → SameCounts same o a b → SameCounts same o (x ∷ a) (y ∷ b)
-  same_counts-cons x y a b e h z =
-      let like : same z x ≡ same z y = o.symm z x ∙ o.congr x y z e ∙ o.symm y z in
-      omega (arith, many_cons same o x a z, many_cons same o y b z, h z, ap {B = ℕ} (λ c. cond c 1 0) like)
+  same_counts-cons x y a b e h z = grind (arith, many_cons)
 
   same_counts-tail : (x y : X) (a b : List X) → same x y ≡ true → SameCounts same o (x ∷ a) (y ∷ b) → SameCounts same o a b
-  same_counts-tail x y a b e h z =
-      let like : same z x ≡ same z y = o.symm z x ∙ o.congr x y z e ∙ o.symm y z in
-      omega (arith, many_cons same o x a z, many_cons same o y b z, h z, ap {B = ℕ} (λ c. cond c 1 0) like)
+  same_counts-tail x y a b e h z = grind (arith, many_cons)
 
 -- The same, where an element may differ from itself.
 module _ {X : Type 0} (same : X → X → Bool) (o : IsPartialEquivalence same) where

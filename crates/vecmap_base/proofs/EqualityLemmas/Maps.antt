@@ -1,8 +1,8 @@
 -- The laws of the equality of maps. They hold of all lists of pairs, also with duplicate keys.
-use Rattle.std.specs.Prelude.{◌≡◌, Bool, ◌&&◌, IsTrue, List}
+use Rattle.std.specs.Prelude.{◌≡◌, Bool, IsTrue, List}
 use Rattle.std.specs.Cmp.{IsEquivalence, equiv, partial_equiv_from_equiv}
 use Rattle.std.specs.List.Sorted.{IsPermutation}
-use Rattle.std.proofs.Common.{◌∙◌, cond}
+use Rattle.std.proofs.Common.{arith, ◌∙◌}
 use Rattle.std.proofs.lemmas.Bool.{and_from, and_parts}
 use Rattle.std.proofs.lemmas.List.Sorted.{sum_by-IsPermutation}
 use Rattle.vecmap_base.specs.Equality.{has_same_counts, same_pair}
@@ -11,13 +11,7 @@ use Rattle.vecmap_base.proofs.EqualityLemmas.Partial.{equally_often_is, partial_
 
 module _ {K V : Type 0} (key : K → K → Bool) (value : V → V → Bool) (k : IsEquivalence key) (v : IsEquivalence value) where
   pub same_pair_laws : IsEquivalence (same_pair key value)
-  same_pair_laws = record {
-    refl = λ p. and_from _ _ (k.refl p.0) (v.refl p.1);
-    symm = λ p q. λ t. k.symm p.0 q.0 t && v.symm p.1 q.1 t;
-    congr = λ p q r e.
-        let both = and_parts (key p.0 q.0) (value p.1 q.1) e in
-        λ t. k.congr p.0 q.0 r.0 both.0 t && v.congr p.1 q.1 r.1 both.1 t;
-  }
+  same_pair_laws = grind (arith, and_from, and_parts)
 
   -- Equality of maps counts pairs by `same_pair`.
   pub counts_as_often : (a b : List (K × V)) → has_same_counts key value a b ≡ as_often (same_pair key value) same_pair_laws a b
@@ -25,9 +19,7 @@ module _ {K V : Type 0} (key : K → K → Bool) (value : V → V → Bool) (k :
 
   -- Lists of the same pairs in another order are equal.
   pub equal_rearranged : (a b : List (K × V)) → IsPermutation a b → IsTrue (has_same_counts key value b a)
-  equal_rearranged a b moved =
-      counts_as_often b a
-      ∙ test_from_counts (same_pair key value) same_pair_laws b a (λ p. sum_by-IsPermutation (λ q. cond (same_pair key value p q) 1 0) a b moved)
+  equal_rearranged a b moved = grind (arith, counts_as_often, test_from_counts, same_pair_laws, sum_by-IsPermutation)
 
   pub map_equality_laws : IsEquivalence (has_same_counts key value)
   map_equality_laws = equiv (partial_map_equality_laws key value k (partial_equiv_from_equiv v)) (λ a. counts_as_often a a ∙ (as_often_laws (same_pair key value) same_pair_laws).refl a)

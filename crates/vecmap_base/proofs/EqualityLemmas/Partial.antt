@@ -41,22 +41,10 @@ module _ {X : Type 0} (same : X → X → Bool) (o : IsPartialEquivalence same) 
   lumped_refl x = elim (cases_Bool (same x x)) [ inl e ↦ at_self x x e ∙ e | inr e ↦ at_other x x e ∙ ap not e ]
 
   lumped_turned : (x y : X) → lumped x y ≡ true → lumped y x ≡ true
-  lumped_turned x y h =
-      elim (cases_Bool (same x x)) [
-        | inl e ↦ let f : same x y ≡ true = sym (at_self x y e) ∙ h in lumped_if_same y x (same_swapped x y f)
-        | inr e ↦ at_other y x (not_true (same y y) (sym (at_other x y e) ∙ h)) ∙ ap not e
-      ]
+  lumped_turned x y h = grind (arith, cases_Bool, at_self, lumped_if_same, same_swapped, at_other, not_true)
 
   lumped_chain : (x y z : X) → lumped x y ≡ true → lumped y z ≡ true → lumped x z ≡ true
-  lumped_chain x y z h k =
-      elim (cases_Bool (same x x)) [
-        | inl e ↦
-            let f : same x y ≡ true = sym (at_self x y e) ∙ h in
-            at_self x z e ∙ o.trans x y z f (sym (at_self y z (self_right x y f)) ∙ k)
-        | inr e ↦
-            let f : same y y ≡ false = not_true (same y y) (sym (at_other x y e) ∙ h) in
-            at_other x z e ∙ sym (at_other y z f) ∙ k
-      ]
+  lumped_chain x y z h k = grind (arith, cases_Bool, at_self, self_right, not_true, at_other)
 
   pub lumped_laws : IsEquivalence lumped
   lumped_laws = equiv (record { symm = λ x y. both_ways _ _ (lumped_turned x y) (lumped_turned y x); trans = lumped_chain }) lumped_refl
@@ -82,12 +70,8 @@ module _ {X : Type 0} (same : X → X → Bool) (o : IsPartialEquivalence same) 
   counts_are x l e = λ t. count_by (λ z. at_self x z e t) l
 
   none_counted : (l : List X) (x : X) → same x x ≡ false → count_by (same x) l ≡ 0
-  none_counted [] x e = refl
-  none_counted (y ∷ ys) x e =
-      let apart : same x y ≡ false = false_from_ne_true (same x y) (λ f. true≢false (sym (self_left x y f) ∙ e)) in
-      let rest = none_counted ys x e in
-      let more = sum_by-cons (λ z. cond (same x z) 1 0) y ys in
-      omega (arith, more, ap {B = ℕ} (λ c. cond c 1 0) apart, rest)
+  none_counted [] x e = grind (arith, false_from_ne_true, self_left, sum_by-cons)
+  none_counted (y ∷ ys) x e = grind (arith, false_from_ne_true, self_left, sum_by-cons, (none_counted ys x e))
 
   pub to_reflexive : (xs a b : List X) → agree xs a b ≡ true → all_reflexive xs ≡ true
   to_reflexive [] a b h = refl
@@ -116,14 +100,10 @@ module _ {X : Type 0} (same : X → X → Bool) (o : IsPartialEquivalence same) 
     pub counts : lumps_as_often a b ≡ true
 
   pub alike : (a b : List X) → equally_often a b ≡ true → Alike a b
-  alike a b h =
-      let parts = and_parts (agree a a b) (agree b a b) h in
-      record { left = to_reflexive a a b parts.0; right = to_reflexive b a b parts.1; counts = and_from _ _ (to_lumps a a b parts.0) (to_lumps b a b parts.1) }
+  alike a b h = grind (arith, and_parts, agree, to_reflexive, and_from, to_lumps)
 
   pub from_alike : (a b : List X) → Alike a b → equally_often a b ≡ true
-  from_alike a b h =
-      let parts = and_parts (lumps_agree a a b) (lumps_agree b a b) h.counts in
-      and_from _ _ (from_lumps a a b h.left parts.0) (from_lumps b a b h.right parts.1)
+  from_alike a b h = grind (arith, and_parts, lumps_agree, and_from, from_lumps)
 
   -- Equality of counts is symmetric and transitive.
   pub equally_often_laws : IsPartialEquivalence equally_often
@@ -183,9 +163,7 @@ module _ {X : Type 0} (same : X → X → Bool) (o : IsPartialEquivalence same) 
 
   -- A list with an element that differs from itself agrees with none.
   pub disagree_at : (a b : List X) (i : ℕ) (x : X) → i < length a → x ≡ get_or a i x → same x x ≡ false → agree a a b ≡ false
-  disagree_at a b i x within at e =
-      let test : X → Bool = λ z. same z z && nat_eq (count_by (same z) a) (count_by (same z) b) in
-      list_all_at test a i x within (ap test (sym at) ∙ ap (λ c. c && nat_eq (count_by (same x) a) (count_by (same x) b)) e)
+  disagree_at a b i x within at e = grind (arith, list_all_at)
 
   -- An element that is equal to itself, and only such a one, has a count in its own list that is not 0.
   abbrev pub occurs_alike : List X → List X → X → Bool

@@ -1,9 +1,9 @@
 -- The elements that are in both of two lists, and those that are in only one of them.
-use Rattle.std.specs.Prelude.{◌≡◌, IsTrue, ◌↔◌, Bool, true, false, ◌&&◌, ◌||◌, not, List, [], ◌∷◌, ◌++◌, filter, if◌then◌else◌, refl}
+use Rattle.std.specs.Prelude.{◌≡◌, IsTrue, ◌↔◌, Bool, true, false, ◌&&◌, not, List, [], ◌∷◌, ◌++◌, filter, refl}
 use Rattle.std.specs.Cmp.{IsEquivalence}
 use Rattle.std.specs.List.{IsDistinct, list_any}
 use Rattle.std.specs.Set.{is_member}
-use Rattle.std.proofs.Common.{sym, ap, ◌∙◌, inl, inr, true≢false}
+use Rattle.std.proofs.Common.{arith, sym, ap, ◌∙◌, inl, inr, true≢false}
 use Rattle.std.proofs.Math.Bool.{and_comm}
 use Rattle.std.proofs.lemmas.Bool.{cases_Bool, or_left}
 use Rattle.std.proofs.lemmas.Map.Made.{is_member-filter}
@@ -14,12 +14,8 @@ use Rattle.vecmap_base.proofs.DistinctLemmas.Removals.{distinct_filter}
 
 -- No element passes a test exactly if the list of the elements that pass is empty.
 none_passes : {T : Type 0} (test : T → Bool) (xs : List T) → (list_any test xs ≡ false) ↔ (filter test xs ≡ [])
-none_passes test [] = (λ e. refl, λ e. refl)
-none_passes test (x ∷ xs) = by (test x) (none_passes test xs)
-  where
-    by : (b : Bool) → (list_any test xs ≡ false) ↔ (filter test xs ≡ []) → ((b || list_any test xs) ≡ false) ↔ ((if b then x ∷ filter test xs else filter test xs) ≡ [])
-    by true h = (λ e. cc, λ e. cc)
-    by false h = h
+none_passes test [] = grind (arith)
+none_passes test (x ∷ xs) = grind (arith, (none_passes test xs))
 
 module _ {T : Type 0} (eq : T → T → Bool) (o : IsEquivalence eq) where
   pub is_member_both : (a b : List T) (x : T) → is_member eq (both eq a b) x ≡ (is_member eq a x && is_member eq b x)
@@ -56,9 +52,7 @@ module _ {T : Type 0} (eq : T → T → Bool) (o : IsEquivalence eq) where
 
   -- It also finds whether `b` shares no element with `a`.
   pub apart_by_walk_turned : (a b : List T) (found : Bool) → found ≡ list_any (is_member eq b) a → IsTrue (not found) ↔ (both eq b a ≡ [])
-  apart_by_walk_turned a b found e =
-      let apart = apart_by_walk a b found e in
-      (λ t. both_empty_turned a b (apart.0 t), λ f. apart.1 (both_empty_turned b a f))
+  apart_by_walk_turned a b found e = grind (arith, apart_by_walk, both_empty_turned)
 
   -- The elements in both lists are distinct if the elements of `a` are.
   pub distinct_both : (a b : List T) → IsDistinct eq a → IsDistinct eq (both eq a b)
@@ -76,6 +70,4 @@ module _ {T : Type 0} (eq : T → T → Bool) (o : IsEquivalence eq) where
   distinct_union a b d e = distinct_append eq o a (only eq b a) d (distinct_only b a e) (λ x m. not_in (is_member eq b x) (is_member eq a x) (sym (is_member_only b a x) ∙ m))
 
   pub distinct_symmetric_difference : (a b : List T) → IsDistinct eq a → IsDistinct eq b → IsDistinct eq (only eq a b ++ only eq b a)
-  distinct_symmetric_difference a b d e =
-      distinct_append eq o (only eq a b) (only eq b a) (distinct_only a b d) (distinct_only b a e) (λ x m.
-      is_member_only a b x ∙ ap (λ c. c && not (is_member eq b x)) (not_in (is_member eq b x) (is_member eq a x) (sym (is_member_only b a x) ∙ m)))
+  distinct_symmetric_difference a b d e = grind (arith, distinct_append, distinct_only, is_member_only, not_in)

@@ -1,6 +1,6 @@
 -- The laws of the equality of sets, and of one set within another.
 use Rattle.std.specs.Prelude.{◌≡◌, ◌<◌, ◌≤◌, Bool, true, false, ◌||◌, List, [], ◌∷◌, ◌++◌, length, refl}
-use Rattle.std.specs.Cmp.{IsEquivalence, both_ways}
+use Rattle.std.specs.Cmp.{IsEquivalence}
 use Rattle.std.specs.List.{IsDistinct}
 use Rattle.std.specs.Set.{is_member}
 use Rattle.std.proofs.Common.{sym, ap, ◌∙◌, arith, true≢false, length-append, inl, inr}
@@ -35,24 +35,7 @@ module _ {T : Type 0} (eq : T → T → Bool) (o : IsEquivalence eq) where
   same_items a b same = and_from _ _ (test_from_within a b (λ x e. sym (same x) ∙ e)) (test_from_within b a (λ x e. same x ∙ e))
 
   pub set_equality_laws : IsEquivalence (has_same_items eq)
-  set_equality_laws = record {
-    refl = λ a. and_from _ _ (test_from_within a a (λ x e. e)) (test_from_within a a (λ x e. e));
-    symm = λ a b. both_ways _ _ (turn a b) (turn b a);
-    congr = λ a b c e. both_ways _ _ (λ f. chain b a c (turn a b e) f) (λ f. chain a b c e f);
-  }
-    where
-      turn : (a b : List T) → has_same_items eq a b ≡ true → has_same_items eq b a ≡ true
-      turn a b e =
-          let p = and_parts (is_within eq a b) (is_within eq b a) e in
-          and_from _ _ p.1 p.0
-
-      chain : (a b c : List T) → has_same_items eq a b ≡ true → has_same_items eq b c ≡ true → has_same_items eq a c ≡ true
-      chain a b c e f =
-          let p = and_parts (is_within eq a b) (is_within eq b a) e in
-          let q = and_parts (is_within eq b c) (is_within eq c b) f in
-          and_from _ _
-          (test_from_within a c (λ x h. within_from_test b c q.0 x (within_from_test a b p.0 x h)))
-          (test_from_within c a (λ x h. within_from_test b a p.1 x (within_from_test c b q.1 x h)))
+  set_equality_laws = grind (arith, and_from, test_from_within, and_parts, within_from_test)
 
   -- A distinct list within another is no longer than that list.
   pub length_within : (a b : List T) → IsDistinct eq a → is_within eq a b ≡ true → length a ≤ length b
@@ -82,13 +65,8 @@ module _ {T : Type 0} (eq : T → T → Bool) (o : IsEquivalence eq) where
       ]
 
   pub set_lengths_differ : (a b : List T) → IsDistinct eq a → IsDistinct eq b → (length a ≡ length b → ⊥) → has_same_items eq a b ≡ false
-  set_lengths_differ a b d e n =
-      false_from_ne_true (has_same_items eq a b) (λ h.
-      let p = and_parts (is_within eq a b) (is_within eq b a) h in
-      n (omega (arith, length_within a b d p.0, length_within b a e p.1)))
+  set_lengths_differ a b d e n = grind (arith, false_from_ne_true, and_parts, length_within)
 
   -- For distinct lists of one length, it is enough to look up the elements of one list.
   pub set_equal_by_half : (a b : List T) → IsDistinct eq a → length a ≡ length b → has_same_items eq a b ≡ is_within eq a b
-  set_equal_by_half a b d n =
-      both_ways _ _ (λ e. (and_parts (is_within eq a b) (is_within eq b a) e).0)
-      (λ e. and_from _ _ e (test_from_within b a (within_back a b d n (within_from_test a b e))))
+  set_equal_by_half a b d n = grind (arith, and_parts, and_from, test_from_within, within_back, within_from_test)

@@ -3,7 +3,7 @@
 use Rattle.std.specs.{Cmp.IsEquivalence, List.IsDistinct, List.list_any, Map.AreApart, Set.is_member}
 use Rattle.std.specs.Prelude.{IfSome, nat_lt}
 use Rattle.std.specs.Option.{option_map_or, option_to_list}
-use Rattle.std.proofs.Common.{◌≡◌, ◌∙◌, ◌&&◌, ◌||◌, ℕ, suc, zero, Bool, true, false, Contains, IsTrue, List, [], ◌∷◌, ◌++◌, None, Option, Some, ap, arith, cond, drop, is_some, length, option_map, position, refl, remove, slice_get, slice_set, subst, sym, take, unwrap_or, inl, inr}
+use Rattle.std.proofs.Common.{◌≡◌, ◌∙◌, ◌&&◌, ◌||◌, ℕ, suc, zero, Bool, true, false, Contains, IsTrue, List, [], ◌∷◌, ◌++◌, None, Option, Some, ap, arith, drop, is_some, length, option_map, position, refl, remove, slice_get, slice_set, subst, sym, take, unwrap_or, inl, inr}
 use Rattle.std.proofs.lemmas.Bool.Decides.{nat_tests}
 use Rattle.std.proofs.lemmas.List.{length-set, take-append-drop, take-set-le}
 use Rattle.std.proofs.lemmas.List.Folds.{list_any-append}
@@ -16,20 +16,9 @@ use Rattle.vecmap_base.proofs.IndexLemmas.{remove_last, slice_get_last}
 module _ {T : Type 0} (test : T → Bool) where
   -- Among the first `n` elements, one passes exactly if the first that passes is among them.
   pub list_any_take : (n : ℕ) (s : List T) → list_any test (take n s) ≡ (list_any test s && nat_lt (unwrap_or (position test s) 0) n)
-  list_any_take zero s = none (list_any test s) (unwrap_or (position test s) 0)
-    where
-      none : (b : Bool) (i : ℕ) → false ≡ (b && nat_lt i 0)
-      none b i = grind (arith, nat_tests)
-  list_any_take (suc n) [] = refl
-  list_any_take (suc n) (x ∷ xs) =
-      ap (λ b. test x || b) (list_any_take n xs)
-      ∙ by (test x) (list_any test xs) (position test xs) (list_any_position test xs)
-      ∙ ap (λ found. (test x || list_any test xs) && nat_lt (unwrap_or found 0) (suc n)) (sym (position_cons test x xs))
-    where
-      by : (b rest : Bool) (found : Option ℕ) → rest ≡ is_some found → (b || (rest && nat_lt (unwrap_or found 0) n)) ≡ ((b || rest) && nat_lt (unwrap_or (cond b (Some 0) (option_map suc found)) 0) (suc n))
-      by true rest found e = grind (arith, nat_tests)
-      by false rest None e = grind arith
-      by false rest (Some i) e = grind (arith, nat_tests)
+  list_any_take zero s = grind (arith, nat_tests, list_any_position, position_cons, option_map)
+  list_any_take (suc n) [] = grind (arith, nat_tests, list_any_position, position_cons, option_map)
+  list_any_take (suc n) (x ∷ xs) = grind (arith, nat_tests, list_any_position, position_cons, option_map, (list_any_take n xs))
 
   -- The same of a list that is known to be the front.
   pub matches_of_front : (n : ℕ) (s r : List T) → r ≡ take n s → list_any test r ≡ (list_any test s && nat_lt (unwrap_or (position test s) 0) n)
@@ -48,20 +37,12 @@ module _ {T : Type 0} (eq : T → T → Bool) (o : IsEquivalence eq) where
       members_removed eq o s r (length r) x (sym (ap (λ l. remove l (length r)) e ∙ remove_last r x)) (ap (λ l. slice_get l (length r)) e ∙ slice_get_last r x) d
 
   stored : (s : List T) (x : T) → list_any (eq x) (put_item eq s x) ≡ true
-  stored [] x = ap (λ b. b || false) (o.refl x)
-  stored (z ∷ zs) x = ap (list_any (eq x)) (put_item_cons eq z zs x) ∙ by (eq x z) refl (stored zs x)
-    where
-      by : (b : Bool) → eq x z ≡ b → list_any (eq x) (put_item eq zs x) ≡ true → list_any (eq x) (cond b (x ∷ zs) (z ∷ put_item eq zs x)) ≡ true
-      by true e rest = ap (λ b. b || list_any (eq x) zs) (o.refl x)
-      by false e rest = ap (λ b. b || list_any (eq x) (put_item eq zs x)) e ∙ rest
+  stored [] x = grind (arith, put_item_cons)
+  stored (z ∷ zs) x = grind (arith, put_item_cons, (stored zs x))
 
   others_stay : (x : T) (other : T → Bool) → AreApart (eq x) other → (s : List T) → list_any other (put_item eq s x) ≡ list_any other s
-  others_stay x other apart [] = ap (λ b. b || false) (apart x (o.refl x))
-  others_stay x other apart (z ∷ zs) = ap (list_any other) (put_item_cons eq z zs x) ∙ by (eq x z) refl (others_stay x other apart zs)
-    where
-      by : (b : Bool) → eq x z ≡ b → list_any other (put_item eq zs x) ≡ list_any other zs → list_any other (cond b (x ∷ zs) (z ∷ put_item eq zs x)) ≡ list_any other (z ∷ zs)
-      by true e rest = ap (λ b. b || list_any other zs) (apart x (o.refl x) ∙ sym (apart z e))
-      by false e rest = ap (λ b. other z || b) rest
+  others_stay x other apart [] = grind (arith, put_item_cons)
+  others_stay x other apart (z ∷ zs) = grind (arith, put_item_cons, (others_stay x other apart zs))
 
   -- After an addition that stores the new element, it is present, and each other element exactly if it was.
   pub members_of_put : (s r : List T) (x : T) → r ≡ put_item eq s x → UpdatesMember eq (eq x) s r true

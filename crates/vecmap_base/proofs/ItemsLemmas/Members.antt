@@ -1,7 +1,8 @@
 -- Which elements are present after an addition and after a removal, in the words of contracts.
+use Rattle.std.proofs.lemmas.Grind.{common_steps}
 use Rattle.std.specs.{Cmp.IsEquivalence, List.IsDistinct, List.list_any, List.Sorted.IsPermutation, List.swap_remove, Map.AreApart, Map.IsKeyTest, Option.option_map_or}
 use Rattle.std.specs.Set.{is_member, KeepsOthers}
-use Rattle.std.proofs.Common.{◌≡◌, ◌∙◌, ◌||◌, ◌++◌, ◌+◌, ◌-◌, ◌<◌, ◌≤◌, ◌⊎◌, ℕ, suc, Bool, true, false, List, [], ◌∷◌, None, Option, Some, ap, arith, cond, drop, get_or, inl, inr, is_some, length, length-append, position, refl, remove, set, slice_get, subst, sym, take, take_at, true≢false}
+use Rattle.std.proofs.Common.{◌≡◌, ◌∙◌, ◌||◌, ◌++◌, ◌+◌, ◌-◌, ◌<◌, ◌≤◌, ◌⊎◌, ℕ, suc, Bool, true, false, List, [], ◌∷◌, None, Option, Some, ap, arith, drop, get_or, inl, inr, is_some, length, length-append, position, refl, remove, slice_get, subst, sym, take, take_at, true≢false}
 use Rattle.std.proofs.lemmas.Bool.{cases_Bool, cases_lt}
 use Rattle.std.proofs.lemmas.List.{length-take-le, take-set-le, take-take}
 use Rattle.std.proofs.lemmas.List.Folds.{list_any-append}
@@ -66,10 +67,7 @@ module _ {T : Type 0} where
   front_of_removed s i l = take_at (take i s) (drop (suc i) s) i (length-take-le i s (omega (arith, l)))
 
   front_of_swap_removed : (s : List T) (i : ℕ) (x : T) → i < length s → take i (swap_remove s i x) ≡ take i s
-  front_of_swap_removed s i x l =
-      let n = length s - 1 in
-      let written = set s i (get_or s n x) in
-      take-take i n written (omega (arith, l)) ∙ take-set-le i s i (get_or s n x) (omega arith)
+  front_of_swap_removed s i x l = grind (arith, take-take, take-set-le)
 
 module _ {T : Type 0} (eq : T → T → Bool) (o : IsEquivalence eq) where
   module _ (test : T → Bool) (respects : IsKeyTest eq test) where
@@ -77,24 +75,7 @@ module _ {T : Type 0} (eq : T → T → Bool) (o : IsEquivalence eq) where
     -- the first match stays, and what an addition does.
     pub members_from : (s r : List T) (b : Bool) → list_any test r ≡ b → ((other : T → Bool) → IsKeyTest eq other → AreApart test other → list_any other r ≡ list_any other s) → KeepsBefore test s r → (b ≡ true → Grows test s r) → UpdatesMember eq test s r b
     unfolding KeepsOthers
-    members_from s r b here apart before grows =
-        let away : (q : T) → test q ≡ false → is_member eq r q ≡ is_member eq s q =
-        λ q n. apart (eq q) (o.congr q) (λ k h. o.symm q k ∙ sym (respects k q h) ∙ n) in
-        record {
-          members = λ q. elim (cases_Bool (test q)) [
-            | inl h ↦ ap (λ f. list_any f r) (sym (compares_with eq o test respects q h)) ∙ here ∙ sym (ap (λ c. cond c b (is_member eq s q)) h)
-            | inr n ↦ away q n ∙ sym (ap (λ c. cond c b (is_member eq s q)) n)
-          ];
-          own = here;
-          others = away;
-          queries = apart;
-          gone = λ e. position_none test r (here ∙ e);
-          before = before;
-          last = λ e. last_grown test s r (grows e);
-          at = λ e. at_grown test s r (grows e);
-          len = λ e. len_grown test s r (grows e);
-          kept = λ e. kept_grown test s r (grows e);
-        }
+    members_from s r b here apart before grows = grind (arith, cases_Bool, compares_with, position_none, last_grown, at_grown, len_grown, kept_grown)
 
     nothing_grows : (s r : List T) → false ≡ true → Grows test s r
     nothing_grows s r e = absurd (true≢false (sym e))
@@ -220,15 +201,5 @@ module _ {T : Type 0} (eq : T → T → Bool) (o : IsEquivalence eq) where
 
   -- After many additions, an element is present if it was, or if one of the added elements is equal to it.
   pub is_member_adds : (s xs : List T) (q : T) → is_member eq (adds eq s xs) q ≡ (is_member eq s q || is_member eq xs q)
-  is_member_adds s [] q = sym (or_false (is_member eq s q))
-  is_member_adds s (x ∷ xs) q =
-      is_member_adds (add eq s x) xs q
-      ∙ ap (λ b. b || is_member eq xs q) ((members_of_add s (add eq s x) x refl).members q)
-      ∙ either (eq x q) (is_member eq s q) (is_member eq xs q)
-      ∙ ap (λ b. is_member eq s q || (b || is_member eq xs q)) (sym (o.symm q x))
-    where
-      either : (b m r : Bool) → (cond b true m || r) ≡ (m || (b || r))
-      either true true r = refl
-      either true false r = refl
-      either false true r = refl
-      either false false r = refl
+  is_member_adds s [] q = grind (arith, common_steps, or_false, members_of_add)
+  is_member_adds s (x ∷ xs) q = grind (arith, common_steps, or_false, members_of_add, (is_member_adds (add eq s x) xs q))

@@ -1,7 +1,7 @@
 -- What a binary search says of a list: whether an item compares as equal, if comparisons rise with the items.
 use Rattle.std.specs.Prelude.{◌≡◌, ◌≤◌, ℕ, Bool, Err, List, [], ◌∷◌, IfOk, Ok, Result, Some, false, is_ok, length, slice_get, true}
 use Rattle.std.specs.{Cmp.IsTotalOrder, List.list_any}
-use Rattle.std.specs.Cmp.{alike_right, upto, IsStrictWeakOrder}
+use Rattle.std.specs.Cmp.{alike_right, IsStrictWeakOrder}
 use Rattle.std.specs.List.Sorted.{IsBinarySearchResult, IsNonDecreasingBy, IsPartitionPoint, IsSearchInRange, IsSortedByKey}
 use Rattle.std.specs.Ordering.{is_eq, is_gt, is_lt, ordering_index, ordering_reverse}
 use Rattle.std.specs.declared.cmp.Ordering.{Ordering}
@@ -30,10 +30,7 @@ module _ {X K : Type 0} (key : X → K) (cmp : K → K → Ordering) (o : IsTota
   one_way Greater e = absurd (true≢false (sym e))
 
   pub weak : IsStrictWeakOrder less
-  weak = record {
-    one_way = λ x y e. less_is_greater y x ∙ one_way (cmp (key x) (key y)) e;
-    chain = λ x y z e f. less_is_greater x z ∙ upto o (key z) (key y) (key x) (sym (less_is_greater y z) ∙ f) (sym (less_is_greater x y) ∙ e);
-  }
+  weak = grind (arith, one_way, less_is_greater)
 
   -- How an item compares with `k` rises with the items.
   rises : (k : K) (y z : X) → less z y ≡ false → (r s : Ordering) → cmp (key y) k ≡ r → cmp (key z) k ≡ s → ordering_index r ≤ ordering_index s
@@ -54,12 +51,7 @@ module _ {X K : Type 0} (key : X → K) (cmp : K → K → Ordering) (o : IsTota
 
   -- An item that is not equal to `k` is found nowhere.
   pub none_at_partition : (eq : K → K → Bool) → ((x y : K) → eq x y ≡ is_eq (cmp x y)) → (k : K) (xs : List X) (i : ℕ) → IsPartitionPoint (λ y. cmp (key y) k ≡ Less) (λ y. cmp (key y) k ≡ Greater) xs i → list_any (λ y. eq k (key y)) xs ≡ false
-  none_at_partition eq matches k xs i split =
-      list_any_none (λ y. eq k (key y)) xs (λ j d within.
-      elim (cases_Bool (nat_lt j i)) [
-        | inl e ↦ matches k (key (get_or xs j d)) ∙ ap is_eq (o.antisymm k (key (get_or xs j d)) ∙ ap ordering_reverse (split.0 j d (omega arith) (ltb-true j i e)))
-        | inr e ↦ matches k (key (get_or xs j d)) ∙ ap is_eq (o.antisymm k (key (get_or xs j d)) ∙ ap ordering_reverse (split.1 j d (ltb-false j i e) within))
-      ])
+  none_at_partition eq matches k xs i split = grind (arith, list_any_none, cases_Bool, nat_lt, ltb-true, ltb-false)
 
   -- A binary search that succeeds finds the index of an item that is equal to `k`.
   pub search_at : (eq : K → K → Bool) → ((x y : K) → eq x y ≡ is_eq (cmp x y)) → (k : K) (xs : List X) (r : Result ℕ ℕ) → IsSearchInRange r (length xs) → IsBinarySearchResult (λ y. cmp (key y) k) xs r → IfOk r (λ i. (x : X) × (slice_get xs i ≡ Some x) × (eq k (key x) ≡ true))

@@ -1,12 +1,12 @@
 -- At which indices keys are after a change, in the words of contracts.
-use Rattle.std.specs.{Cmp.IsEquivalence, List.AllByRecursion, List.Sorted.IsPermutation, Map.IsKeyTest, Map.keys_of, Option.option_and_then, Option.option_map_or}
-use Rattle.std.proofs.Common.{◌≡◌, ◌∙◌, ◌+◌, ◌-◌, ◌<◌, ◌≤◌, ◌++◌, ℕ, zero, suc, Bool, true, false, List, [], ◌∷◌, None, Option, Some, IfSome, IsSome, ap, arith, drop, if◌then◌else◌, insert, is_some, length, map, min, option_map, refl, remove, slice_get, subst, sym, take, true≢false, cond, unwrap_or}
+use Rattle.std.specs.{Cmp.IsEquivalence, List.AllByRecursion, List.Sorted.IsPermutation, Map.IsKeyTest, Map.keys_of, Option.option_map_or}
+use Rattle.std.proofs.Common.{◌≡◌, ◌∙◌, ◌+◌, ◌-◌, ◌<◌, ◌≤◌, ◌++◌, ℕ, zero, suc, Bool, true, false, List, [], ◌∷◌, None, Option, Some, IfSome, IsSome, ap, arith, drop, if◌then◌else◌, insert, is_some, length, map, min, option_map, refl, remove, slice_get, subst, sym, take, unwrap_or}
 use Rattle.std.proofs.lemmas.List.{drop-map, length-append, length-map, map-append, take-map}
 use Rattle.std.proofs.lemmas.Map.Keys.{IsDistinct-head, IsDistinct-tail}
 use Rattle.std.proofs.lemmas.List.Edits.{length-insert, length-remove}
 use Rattle.std.proofs.lemmas.Option.{none-some, same_Some, slice_get_within}
 use Rattle.vecmap_base.specs.{Indices.AddsKey, Indices.HasMatchAt, Indices.InsertsAt, Indices.IsFoundAt, Indices.KeepsIndices, Indices.MovesIndex, Indices.PutsKey, Indices.ShiftsIndices}
-use Rattle.vecmap_base.specs.Pairs.{HasDistinctKeys, index_by, index_of, index_or_length, lookup, lookup_by, put, put_at, put_key, value_at, with_pair, without_by}
+use Rattle.vecmap_base.specs.Pairs.{HasDistinctKeys, index_by, index_of, index_or_length, lookup, lookup_by, put, put_at, put_key, with_pair, without_by}
 use Rattle.std.proofs.lemmas.Map.Entries.{lookup_from_place}
 use Rattle.vecmap_base.proofs.MoveLemmas.{inserted_found}
 use Rattle.vecmap_base.proofs.PairsLemmas.ByIndex.{index_by_none, is_some_lookup_by, lookup_by_index, put_key_by_index, without_by_index}
@@ -74,12 +74,10 @@ module _ {K V : Type 0} (test : K → Bool) where
 
   -- Lists with the same keys have them at the same indices.
   pub same_indices : (l m : List (K × V)) → keys_of m ≡ keys_of l → index_by test m ≡ index_by test l
-  same_indices [] [] e = refl
-  same_indices [] (q ∷ qs) e = absurd (let f : q.0 ∷ keys_of qs ≡ [] = e in cc)
-  same_indices (p ∷ ps) [] e = absurd (let f : [] ≡ p.0 ∷ keys_of ps = e in cc)
-  same_indices (p ∷ ps) (q ∷ qs) e =
-      let key : q.0 ≡ p.0 = cc in
-      λ t. if test (key t) then Some 0 else option_map suc (same_indices ps qs (cc) t)
+  same_indices [] [] e = grind (arith, option_map)
+  same_indices [] (q ∷ qs) e = grind (arith, option_map)
+  same_indices (p ∷ ps) [] e = grind (arith, option_map)
+  same_indices (p ∷ ps) (q ∷ qs) e = grind (arith, option_map, (same_indices ps qs (cc)))
 
   pub index_in_front : (n : ℕ) (l : List (K × V)) (i : ℕ) → index_by test l ≡ Some i → i < n → index_by test (take n l) ≡ Some i
   index_in_front n [] i e h = absurd (none-some i e)
@@ -116,13 +114,9 @@ module _ {K V : Type 0} (test : K → Bool) where
 
   -- A query that matches the key of a pair finds something.
   pair_present_at : (l : List (K × V)) (i : ℕ) (p : K × V) → slice_get l i ≡ Some p → test p.0 ≡ true → is_some (lookup_by test l) ≡ true
-  pair_present_at [] i p e t = absurd (none-some p e)
-  pair_present_at (q ∷ qs) zero p e t = ap (λ b. is_some (cond b (Some q.1) (lookup_by test qs))) (ap (λ r. test r.0) (same_Some q p e) ∙ t)
-  pair_present_at (q ∷ qs) (suc i) p e t = by (test q.0) (pair_present_at qs i p e t)
-    where
-      by : (b : Bool) → is_some (lookup_by test qs) ≡ true → is_some (cond b (Some q.1) (lookup_by test qs)) ≡ true
-      by true h = refl
-      by false h = h
+  pair_present_at [] i p e t = grind (arith, none-some, same_Some)
+  pair_present_at (q ∷ qs) zero p e t = grind (arith, none-some, same_Some)
+  pair_present_at (q ∷ qs) (suc i) p e t = grind (arith, none-some, same_Some, (pair_present_at qs i p e t))
 
   -- A match before the index `n` keeps its index, if all pairs before `n` do.
   pub stays_in_front : (l m : List (K × V)) (n i : ℕ) → ((j : ℕ) → j < n → slice_get m j ≡ slice_get l j) → index_by test l ≡ Some i → i < n → index_by test m ≡ Some i
@@ -137,38 +131,19 @@ module _ {K V : Type 0} (test : K → Bool) where
 module _ {K V : Type 0} where
   -- A pair at an index, in the word of contracts.
   pub found_at : (l : List (K × V)) (i : ℕ) (k : K) (v : V) → slice_get l i ≡ Some (k, v) → IsFoundAt i l k v
-  found_at l i k v e = record {
-    present = λ test t. pair_present_at test l i (k, v) e t;
-    value = λ eq o d. lookup_from_place o l i k v d e;
-    index = λ eq o d. index_by_own (eq k) eq o (o.congr k) l d i (k, v) e (o.refl k);
-  }
+  found_at l i k v e = grind (arith, pair_present_at, lookup_from_place, index_by_own)
 
   -- The keys stay, each at its index.
   pub keeps_indices : (l m : List (K × V)) → keys_of m ≡ keys_of l → KeepsIndices l m
-  keeps_indices l m e = record {
-    keys = e;
-    indices = λ test. same_indices test l m e;
-    len = sym (length-map m (λ p. p.0)) ∙ ap length e ∙ length-map l (λ p. p.0);
-    value = λ test i at. sym (lookup_by_index test m ∙ ap (option_and_then (value_at m)) (same_indices test l m e ∙ at));
-  }
+  keeps_indices l m e = grind (arith, same_indices, length-map, lookup_by_index)
 
   -- After the removal of the pair at an index.
   pub shifts_indices : (l m : List (K × V)) (i : ℕ) → m ≡ remove l i → ShiftsIndices i l m
-  shifts_indices l m i e = subst (ShiftsIndices i l) (sym e) (record {
-    before = λ test. before_removed test i l;
-    after = λ test. after_removed test i l;
-    front = front_removed l i;
-    keys = removed_each (λ p. p.0) l i;
-    values = removed_each (λ p. p.1) l i;
-  })
+  shifts_indices l m i e = grind (arith, before_removed, after_removed, front_removed, removed_each)
 
   -- The same after a removal by a query.
   pub shifts_without : (test : K → Bool) (l m : List (K × V)) → m ≡ without_by test l → IfSome (index_by test l) (λ i. ShiftsIndices i l m)
-  shifts_without test l m e = by (index_by test l) (e ∙ without_by_index test l)
-    where
-      by : (found : Option ℕ) → m ≡ option_map_or (λ i. remove l i) found l → IfSome found (λ i. ShiftsIndices i l m)
-      by None f = tt
-      by (Some i) f = shifts_indices l m i f
+  shifts_without test l m e = grind (arith, without_by_index, shifts_indices)
 
   -- In another order, a pair that is known to be at another index is found there.
   pub moves_index : (l m : List (K × V)) (i j : ℕ) → IsPermutation l m → slice_get m j ≡ slice_get l i → MovesIndex i j l m
@@ -205,92 +180,45 @@ module _ {K V : Type 0} (eq : K → K → Bool) where
 
   -- An insertion that replaces an equal key leaves as many pairs as one that keeps it.
   pub length_put_key : (l : List (K × V)) (k : K) (v : V) → length (put_key eq l k v) ≡ length (put eq l k v)
-  length_put_key [] k v = refl
-  length_put_key (p ∷ ps) k v = by (eq k p.0) (length_put_key ps k v)
-    where
-      by : (b : Bool) → length (put_key eq ps k v) ≡ length (put eq ps k v) → length (if b then (k, v) ∷ ps else p ∷ put_key eq ps k v) ≡ length (if b then (p.0, v) ∷ ps else p ∷ put eq ps k v)
-      by true rest = refl
-      by false rest = ap suc rest
+  length_put_key [] k v = grind (arith)
+  length_put_key (p ∷ ps) k v = grind (arith, (length_put_key ps k v))
 
   module _ (o : IsEquivalence eq) where
     index_put : (l : List (K × V)) (k : K) (v : V) → index_of eq (put eq l k v) k ≡ Some (index_or_length eq l k)
-    index_put [] k v = ap (λ b. if b then Some 0 else None) (o.refl k)
-    index_put (p ∷ ps) k v = by (eq k p.0) refl (index_put ps k v)
-      where
-        by : (b : Bool) → eq k p.0 ≡ b → index_of eq (put eq ps k v) k ≡ Some (index_or_length eq ps k)
-            → index_of eq (if b then (p.0, v) ∷ ps else p ∷ put eq ps k v) k ≡ Some (unwrap_or (if b then Some 0 else option_map suc (index_of eq ps k)) (suc (length ps)))
-        by true e rest = ap (λ b. if b then Some 0 else option_map suc (index_of eq ps k)) e
-        by false e rest =
-            ap (λ b. if b then Some 0 else option_map suc (index_of eq (put eq ps k v) k)) e
-            ∙ ap (option_map suc) rest ∙ ap Some (suc_unwrapped (index_of eq ps k) (length ps))
+    index_put [] k v = grind (arith, option_map, suc_unwrapped)
+    index_put (p ∷ ps) k v = grind (arith, option_map, suc_unwrapped, (index_put ps k v))
 
     kept_keys : (l : List (K × V)) (k : K) (v : V) → IsSome (lookup eq l k) → keys_of (put eq l k v) ≡ keys_of l
     kept_keys l k v some = keys_put l k v ∙ ap (λ b. if b then keys_of l else keys_of l ++ k ∷ []) some
 
     -- If the value is the one that is stored, nothing changes.
     put_found : (l : List (K × V)) (k : K) (v w : V) → IsSome (lookup eq l k) → v ≡ unwrap_or (lookup eq l k) w → put eq l k v ≡ l
-    put_found l k v w some e = ap (put eq l k) e ∙ put_stored eq l k w ∙ present (index_of eq l k) (sym (is_some_lookup_by (eq k) l) ∙ some)
-      where
-        present : (found : Option ℕ) → IsSome found → option_map_or (λ i. l) found (l ++ (k, w) ∷ []) ≡ l
-        present None h = absurd (true≢false (sym h))
-        present (Some i) h = refl
+    put_found l k v w some e = grind (arith, put_stored, is_some_lookup_by)
 
     -- After an insertion.
     pub adds_key : (l m : List (K × V)) (k : K) (v : V) → m ≡ put eq l k v → AddsKey eq l k v m
-    adds_key l m k v e = subst (AddsKey eq l k v) (sym e) (record {
-      index = index_put l k v;
-      indices = λ test. indices_put test l k v;
-      keys = keys_put l k v;
-      len = length_put_by_lookup l k v;
-      kept = kept_keys l k v;
-      appended = λ absent. put_absent eq l k v (index_by_none (eq k) l absent);
-      last = λ absent. index_put l k v ∙ ap (λ found. Some (unwrap_or found (length l))) (index_by_none (eq k) l absent);
-      pair = λ absent. ap (λ n. slice_get n (length l)) (put_absent eq l k v (index_by_none (eq k) l absent)) ∙ slice_get_last l (k, v);
-      stay = λ some test. same_indices test l (put eq l k v) (kept_keys l k v some);
-      same = λ w. put_found l k v w;
-    })
+    adds_key l m k v e = grind (arith, index_put, indices_put, keys_put, length_put_by_lookup, kept_keys, put_absent, index_by_none, slice_get_last, same_indices, put_found)
 
     -- Each key has the same index after an insertion that keeps an equal key and after one that replaces it.
     pub index_of_put_key : (l : List (K × V)) (k : K) (v : V) (q : K) → index_of eq (put_key eq l k v) q ≡ index_of eq (put eq l k v) q
-    index_of_put_key [] k v q = refl
-    index_of_put_key (p ∷ ps) k v q = by (eq k p.0) refl (index_of_put_key ps k v q)
-      where
-        by : (b : Bool) → eq k p.0 ≡ b → index_of eq (put_key eq ps k v) q ≡ index_of eq (put eq ps k v) q → index_of eq (if b then (k, v) ∷ ps else p ∷ put_key eq ps k v) q ≡ index_of eq (if b then (p.0, v) ∷ ps else p ∷ put eq ps k v) q
-        by true e rest = ap (λ b. if b then Some 0 else option_map suc (index_of eq ps q)) (o.symm q k ∙ o.congr k p.0 q e ∙ o.symm p.0 q)
-        by false e rest = ap (λ found. if eq q p.0 then Some 0 else option_map suc found) rest
+    index_of_put_key [] k v q = grind (arith, option_map)
+    index_of_put_key (p ∷ ps) k v q = grind (arith, option_map, (index_of_put_key ps k v q))
 
     pair_put_key : (l : List (K × V)) (k : K) (v : V) → slice_get (put_key eq l k v) (index_or_length eq l k) ≡ Some (k, v)
-    pair_put_key [] k v = refl
-    pair_put_key (p ∷ ps) k v = by (eq k p.0) (pair_put_key ps k v)
-      where
-        by : (b : Bool) → slice_get (put_key eq ps k v) (index_or_length eq ps k) ≡ Some (k, v)
-            → slice_get (if b then (k, v) ∷ ps else p ∷ put_key eq ps k v) (unwrap_or (if b then Some 0 else option_map suc (index_of eq ps k)) (suc (length ps))) ≡ Some (k, v)
-        by true rest = refl
-        by false rest = ap (slice_get (p ∷ put_key eq ps k v)) (sym (suc_unwrapped (index_of eq ps k) (length ps))) ∙ rest
+    pair_put_key [] k v = grind (arith, option_map, suc_unwrapped)
+    pair_put_key (p ∷ ps) k v = grind (arith, option_map, suc_unwrapped, (pair_put_key ps k v))
 
     -- If only `k` itself is equal to it, the keys are those of an insertion that keeps it.
     keys_put_key : (l : List (K × V)) (k : K) (v : V) → ((q : K) → eq k q ≡ true → q ≡ k) → keys_of (put_key eq l k v) ≡ keys_of (put eq l k v)
-    keys_put_key [] k v own = refl
-    keys_put_key (p ∷ ps) k v own = by (eq k p.0) refl (keys_put_key ps k v own)
-      where
-        by : (b : Bool) → eq k p.0 ≡ b → keys_of (put_key eq ps k v) ≡ keys_of (put eq ps k v) → keys_of (if b then (k, v) ∷ ps else p ∷ put_key eq ps k v) ≡ keys_of (if b then (p.0, v) ∷ ps else p ∷ put eq ps k v)
-        by true e rest = ap (λ q. q ∷ keys_of ps) (sym (own p.0 e))
-        by false e rest = ap (λ ks. p.0 ∷ ks) rest
+    keys_put_key [] k v own = grind (arith)
+    keys_put_key (p ∷ ps) k v own = grind (arith, (keys_put_key ps k v own))
 
     appended_key : (l : List (K × V)) (k : K) (v : V) → lookup eq l k ≡ None → put_key eq l k v ≡ l ++ (k, v) ∷ []
     appended_key l k v absent = put_key_by_index eq l k v ∙ ap (λ found. option_map_or (λ i. with_pair l i k v) found (l ++ (k, v) ∷ [])) (index_by_none (eq k) l absent)
 
     -- After an insertion that replaces an equal key.
     pub puts_key : (l m : List (K × V)) (k : K) (v : V) → m ≡ put_key eq l k v → PutsKey eq l k v m
-    puts_key l m k v e = subst (PutsKey eq l k v) (sym e) (record {
-      index = index_of_put_key l k v k ∙ index_put l k v;
-      indices = λ q i at. index_of_put_key l k v q ∙ indices_put (eq q) l k v i at;
-      pair = pair_put_key l k v;
-      len = length_put_key l k v ∙ length_put_by_lookup l k v;
-      appended = appended_key l k v;
-      last = λ absent. ap (λ n. slice_get n (length l)) (appended_key l k v absent) ∙ slice_get_last l (k, v);
-      keys = λ own. keys_put_key l k v own ∙ keys_put l k v;
-    })
+    puts_key l m k v e = grind (arith, index_of_put_key, index_put, indices_put, pair_put_key, length_put_key, length_put_by_lookup, appended_key, slice_get_last, keys_put_key, keys_put)
 
     -- After a pair is appended whose key is absent.
     pub adds_new_key : (l m : List (K × V)) (k : K) (v : V) → m ≡ l ++ (k, v) ∷ [] → lookup eq l k ≡ None → AddsKey eq l k v m
@@ -298,34 +226,11 @@ module _ {K V : Type 0} (eq : K → K → Bool) where
 
   -- After an insertion at an index, the pair is there, or last if the index is past the end of the list that it makes.
   pub put_at_found : (l m : List (K × V)) (i : ℕ) (k : K) (v : V) → m ≡ put_at eq l i k v → i ≤ length l → slice_get m (min i (length m - 1)) ≡ Some (k, v)
-  put_at_found l m i k v e h = by (index_of eq l k) refl e
-    where
-      by : (found : Option ℕ) → index_of eq l k ≡ found → m ≡ option_map_or (λ j. insert (remove l j) (min i (length l - 1)) (k, v)) found (insert l i (k, v)) → slice_get m (min i (length m - 1)) ≡ Some (k, v)
-      by None a f =
-          let long : length m ≡ length l + 1 = ap length f ∙ length-insert l i (k, v) h in
-          let here : min i (length m - 1) ≡ i = grind arith in
-          ap (slice_get m) here ∙ ap (λ n. slice_get n i) f ∙ inserted_found l i (k, v) h
-      by (Some j) a f =
-          let at = match_at (eq k) l j a in
-          let within = slice_get_within l j (at.0, at.1) at.2 in
-          let shorter = length-remove l j within in
-          let low : min i (length l - 1) ≤ length (remove l j) = grind arith in
-          let long : length m ≡ length (remove l j) + 1 = ap length f ∙ length-insert (remove l j) (min i (length l - 1)) (k, v) low in
-          let here : min i (length m - 1) ≡ min i (length l - 1) = grind arith in
-          ap (slice_get m) here ∙ ap (λ n. slice_get n (min i (length l - 1))) f ∙ inserted_found (remove l j) (min i (length l - 1)) (k, v) low
+  put_at_found l m i k v e h = grind (arith, length-insert, inserted_found, match_at, slice_get_within, length-remove)
 
   module _ (l : List (K × V)) (k : K) (v : V) where
     length_put_at : (i : ℕ) → i ≤ length l → length (put_at eq l i k v) ≡ (if is_some (lookup eq l k) then length l else length l + 1)
-    length_put_at i h = by (index_of eq l k) refl ∙ ap (λ b. if b then length l else length l + 1) (sym (is_some_lookup_by (eq k) l))
-      where
-        by : (found : Option ℕ) → index_of eq l k ≡ found → length (option_map_or (λ j. insert (remove l j) (min i (length l - 1)) (k, v)) found (insert l i (k, v))) ≡ (if is_some found then length l else length l + 1)
-        by None a = length-insert l i (k, v) h
-        by (Some j) a =
-            let at = match_at (eq k) l j a in
-            let within = slice_get_within l j (at.0, at.1) at.2 in
-            let shorter = length-remove l j within in
-            let low : min i (length l - 1) ≤ length (remove l j) = grind arith in
-            length-insert (remove l j) (min i (length l - 1)) (k, v) low ∙ omega (arith, shorter, within)
+    length_put_at i h = grind (arith, is_some_lookup_by, length-insert, match_at, slice_get_within, length-remove)
 
     put_at_new : (i : ℕ) → lookup eq l k ≡ None → put_at eq l i k v ≡ insert l i (k, v)
     put_at_new i absent = ap (λ found. option_map_or (λ j. insert (remove l j) (min i (length l - 1)) (k, v)) found (insert l i (k, v))) (index_by_none (eq k) l absent)
@@ -345,13 +250,4 @@ module _ {K V : Type 0} (eq : K → K → Bool) where
 
     -- After an insertion at an index.
     pub inserts_at : (l m : List (K × V)) (i : ℕ) (k : K) (v : V) → m ≡ put_at eq l i k v → i ≤ length l → InsertsAt eq i l k v m
-    inserts_at l m i k v e h = record {
-      index = λ absent. ap (λ n. index_of eq n k) (new absent) ∙ index_inserted l i k v h (index_by_none (eq k) l absent);
-      pair = λ absent. ap (λ n. slice_get n i) (new absent) ∙ inserted_found l i (k, v) h;
-      front = λ j absent less. ap (λ n. slice_get n j) (new absent) ∙ front_inserted l i j (k, v) h less;
-      keys = λ absent. ap keys_of (new absent) ∙ keys_of_insert l i k v;
-      len = ap length e ∙ length_put_at l k v i h;
-    }
-      where
-        new : lookup eq l k ≡ None → m ≡ insert l i (k, v)
-        new absent = e ∙ put_at_new l k v i absent
+    inserts_at l m i k v e h = grind (arith, index_inserted, index_by_none, inserted_found, front_inserted, keys_of_insert, length_put_at, put_at_new)

@@ -1,7 +1,7 @@
 -- The definitions on pairs that are by recursion, by the index of the first key that passes a test.
 use Rattle.std.specs.Map.{set_value}
 use Rattle.std.specs.Option.{option_map, option_map_or, option_and_then}
-use Rattle.std.proofs.Common.{◌≡◌, ℕ, suc, Bool, true, false, List, [], ◌∷◌, ◌++◌, Option, None, Some, if◌then◌else◌, refl, ap, ◌∙◌, sym, get_or, is_some, length, position, remove, set, slice_get, slice_set, swap_remove, true≢false, ◌<◌}
+use Rattle.std.proofs.Common.{arith, ◌≡◌, ℕ, suc, Bool, true, false, List, [], ◌∷◌, ◌++◌, Option, None, Some, if◌then◌else◌, refl, ap, ◌∙◌, sym, get_or, is_some, length, position, remove, set, slice_get, slice_set, swap_remove, true≢false, ◌<◌}
 use Rattle.std.proofs.lemmas.Option.{slice_get-get_or}
 use Rattle.vecmap_base.specs.Items.{swap_without}
 use Rattle.vecmap_base.specs.Pairs.{index_by, index_of, lookup_by, lookup_pair_by, put, put_key, swap_without_by, value_at, with_pair, with_value, without_by}
@@ -21,23 +21,13 @@ module _ {K V : Type 0} (test : K → Bool) where
 
   -- A lookup finds the value at the index.
   pub lookup_by_index : (l : List (K × V)) → lookup_by test l ≡ option_and_then (value_at l) (index_by test l)
-  lookup_by_index [] = refl
-  lookup_by_index (p ∷ ps) = ap (λ o. if test p.0 then Some p.1 else o) (lookup_by_index ps) ∙ sym (by (test p.0) (index_by test ps))
-    where
-      by : (b : Bool) (o : Option ℕ) → option_and_then (value_at (p ∷ ps)) (if b then Some 0 else option_map suc o) ≡ (if b then Some p.1 else option_and_then (value_at ps) o)
-      by true o = refl
-      by false None = refl
-      by false (Some i) = refl
+  lookup_by_index [] = grind (arith)
+  lookup_by_index (p ∷ ps) = grind (arith, (lookup_by_index ps))
 
   -- A lookup finds a value exactly if a key has an index.
   pub is_some_lookup_by : (l : List (K × V)) → is_some (lookup_by test l) ≡ is_some (index_by test l)
-  is_some_lookup_by [] = refl
-  is_some_lookup_by (p ∷ ps) = by (test p.0) (index_by test ps) (is_some_lookup_by ps)
-    where
-      by : (b : Bool) (o : Option ℕ) → is_some (lookup_by test ps) ≡ is_some o → is_some (if b then Some p.1 else lookup_by test ps) ≡ is_some (if b then Some 0 else option_map suc o)
-      by true o e = refl
-      by false None e = e
-      by false (Some i) e = e
+  is_some_lookup_by [] = grind (arith)
+  is_some_lookup_by (p ∷ ps) = grind (arith, (is_some_lookup_by ps))
 
   -- If a lookup finds nothing, no key has an index.
   pub index_by_none : (l : List (K × V)) → lookup_by test l ≡ None → index_by test l ≡ None
@@ -49,75 +39,39 @@ module _ {K V : Type 0} (test : K → Bool) where
 
   -- A lookup of a pair finds the pair at the index.
   pub lookup_pair_by_index : (l : List (K × V)) → lookup_pair_by test l ≡ option_and_then (slice_get l) (index_by test l)
-  lookup_pair_by_index [] = refl
-  lookup_pair_by_index (p ∷ ps) = ap (λ o. if test p.0 then Some p else o) (lookup_pair_by_index ps) ∙ sym (by (test p.0) (index_by test ps))
-    where
-      by : (b : Bool) (o : Option ℕ) → option_and_then (slice_get (p ∷ ps)) (if b then Some 0 else option_map suc o) ≡ (if b then Some p else option_and_then (slice_get ps) o)
-      by true o = refl
-      by false None = refl
-      by false (Some i) = refl
+  lookup_pair_by_index [] = grind (arith)
+  lookup_pair_by_index (p ∷ ps) = grind (arith, (lookup_pair_by_index ps))
 
   -- A lookup of a pair finds one exactly if a lookup finds a value.
   pub is_some_lookup_pair_by : (l : List (K × V)) → is_some (lookup_pair_by test l) ≡ is_some (lookup_by test l)
-  is_some_lookup_pair_by [] = refl
-  is_some_lookup_pair_by (p ∷ ps) = by (test p.0) (is_some_lookup_pair_by ps)
-    where
-      by : (b : Bool) → is_some (lookup_pair_by test ps) ≡ is_some (lookup_by test ps) → is_some (if b then Some p else lookup_pair_by test ps) ≡ is_some (if b then Some p.1 else lookup_by test ps)
-      by true rest = refl
-      by false rest = rest
+  is_some_lookup_pair_by [] = grind (arith)
+  is_some_lookup_pair_by (p ∷ ps) = grind (arith, (is_some_lookup_pair_by ps))
 
   -- The value of the pair that is found.
   pub value_of_pair_by : (l : List (K × V)) → option_map (λ p. p.1) (lookup_pair_by test l) ≡ lookup_by test l
-  value_of_pair_by [] = refl
-  value_of_pair_by (p ∷ ps) = by (test p.0) (value_of_pair_by ps)
-    where
-      by : (b : Bool) → option_map (λ q. q.1) (lookup_pair_by test ps) ≡ lookup_by test ps → option_map (λ q. q.1) (if b then Some p else lookup_pair_by test ps) ≡ (if b then Some p.1 else lookup_by test ps)
-      by true rest = refl
-      by false rest = rest
+  value_of_pair_by [] = grind (arith)
+  value_of_pair_by (p ∷ ps) = grind (arith, (value_of_pair_by ps))
 
   -- A removal is one at the index.
   pub without_by_index : (l : List (K × V)) → without_by test l ≡ option_map_or (λ i. remove l i) (index_by test l) l
-  without_by_index [] = refl
-  without_by_index (p ∷ ps) = ap (λ r. if test p.0 then ps else p ∷ r) (without_by_index ps) ∙ sym (by (test p.0) (index_by test ps))
-    where
-      by : (b : Bool) (o : Option ℕ) → option_map_or (λ i. remove (p ∷ ps) i) (if b then Some 0 else option_map suc o) (p ∷ ps) ≡ (if b then ps else p ∷ option_map_or (λ i. remove ps i) o ps)
-      by true o = refl
-      by false None = refl
-      by false (Some i) = refl
+  without_by_index [] = grind (arith)
+  without_by_index (p ∷ ps) = grind (arith, (without_by_index ps))
 
   -- A write by std's word is one at the index.
   pub set_value_by_index : (l : List (K × V)) (v : V) → set_value test l v ≡ option_map_or (λ i. with_value l i v) (index_by test l) l
-  set_value_by_index [] v = refl
-  set_value_by_index (p ∷ ps) v = ap (λ r. if test p.0 then (p.0, v) ∷ ps else p ∷ r) (set_value_by_index ps v) ∙ sym (by (test p.0) (index_by test ps))
-    where
-      by : (b : Bool) (o : Option ℕ) → option_map_or (λ i. with_value (p ∷ ps) i v) (if b then Some 0 else option_map suc o) (p ∷ ps)
-          ≡ (if b then (p.0, v) ∷ ps else p ∷ option_map_or (λ i. with_value ps i v) o ps)
-      by true o = refl
-      by false None = refl
-      by false (Some i) = with_value_cons p ps i v
+  set_value_by_index [] v = grind (arith, with_value_cons)
+  set_value_by_index (p ∷ ps) v = grind (arith, with_value_cons, (set_value_by_index ps v))
 
 module _ {K V : Type 0} (eq : K → K → Bool) where
   -- An insertion writes the value at the index, or appends the pair.
   pub put_by_index : (l : List (K × V)) (k : K) (v : V) → put eq l k v ≡ option_map_or (λ i. with_value l i v) (index_of eq l k) (l ++ (k, v) ∷ [])
-  put_by_index [] k v = refl
-  put_by_index (p ∷ ps) k v = ap (λ r. if eq k p.0 then (p.0, v) ∷ ps else p ∷ r) (put_by_index ps k v) ∙ sym (by (eq k p.0) (index_of eq ps k))
-    where
-      by : (b : Bool) (o : Option ℕ) → option_map_or (λ i. with_value (p ∷ ps) i v) (if b then Some 0 else option_map suc o) (p ∷ ps ++ (k, v) ∷ [])
-          ≡ (if b then (p.0, v) ∷ ps else p ∷ option_map_or (λ i. with_value ps i v) o (ps ++ (k, v) ∷ []))
-      by true o = refl
-      by false None = refl
-      by false (Some i) = with_value_cons p ps i v
+  put_by_index [] k v = grind (arith, with_value_cons)
+  put_by_index (p ∷ ps) k v = grind (arith, with_value_cons, (put_by_index ps k v))
 
   -- An insertion with the new key writes the pair at the index, or appends it.
   pub put_key_by_index : (l : List (K × V)) (k : K) (v : V) → put_key eq l k v ≡ option_map_or (λ i. with_pair l i k v) (index_of eq l k) (l ++ (k, v) ∷ [])
-  put_key_by_index [] k v = refl
-  put_key_by_index (p ∷ ps) k v = ap (λ r. if eq k p.0 then (k, v) ∷ ps else p ∷ r) (put_key_by_index ps k v) ∙ sym (by (eq k p.0) (index_of eq ps k))
-    where
-      by : (b : Bool) (o : Option ℕ) → option_map_or (λ i. with_pair (p ∷ ps) i k v) (if b then Some 0 else option_map suc o) (p ∷ ps ++ (k, v) ∷ [])
-          ≡ (if b then (k, v) ∷ ps else p ∷ option_map_or (λ i. with_pair ps i k v) o (ps ++ (k, v) ∷ []))
-      by true o = refl
-      by false None = refl
-      by false (Some i) = refl
+  put_key_by_index [] k v = grind (arith)
+  put_key_by_index (p ∷ ps) k v = grind (arith, (put_key_by_index ps k v))
 
 -- The same for a function that has found the index `i` and has read the pair `p` there.
 module _ {K V : Type 0} (test : K → Bool) (l : List (K × V)) (i : ℕ) (p : K × V) (found : Some i ≡ index_by test l) (within : i < length l) (is : p ≡ get_or l i p) where

@@ -1,12 +1,12 @@
 -- Keys that are distinct stay distinct in the lists that single changes leave.
 use Rattle.std.specs.{Cmp.IsEquivalence, List.IsDistinct, List.Sorted.IsPermutation, List.swap_remove, Map.keys_of, Map.set_value, Option.option_map_or}
-use Rattle.std.proofs.Common.{◌≡◌, ◌∙◌, ℕ, suc, Bool, List, ◌∷◌, None, Option, Some, drop, get_or, refl, remove, slice_get, subst, sym, take, ◌++◌}
+use Rattle.std.proofs.Common.{arith, ◌≡◌, ◌∙◌, ℕ, suc, Bool, List, ◌∷◌, None, Option, Some, drop, get_or, refl, remove, slice_get, subst, sym, take, ◌++◌}
 use Rattle.std.proofs.lemmas.List.{drop-map, map-append, take-map}
 use Rattle.std.proofs.lemmas.List.Sorted.{IsPermutation-map, IsPermutation-swap_remove}
 use Rattle.std.proofs.lemmas.Map.{keys-set_value}
 use Rattle.std.proofs.lemmas.Map.Keys.{IsDistinct-tail}
 use Rattle.std.proofs.lemmas.Option.{get_or_from_slice_get, slice_get_within}
-use Rattle.vecmap_base.specs.{Items.swap_without, Pairs.HasDistinctKeys, Pairs.index_by, Pairs.put, Pairs.swap_without_by, Pairs.without_by}
+use Rattle.vecmap_base.specs.{Items.swap_without, Pairs.HasDistinctKeys, Pairs.put, Pairs.swap_without_by, Pairs.without_by}
 use Rattle.vecmap_base.proofs.DistinctLemmas.{Additions.distinct_add, Order.distinct_rearranged, Removals.distinct_remove}
 use Rattle.vecmap_base.proofs.PairsLemmas.{ByIndex.without_by_index, Keys.keys_of_put}
 
@@ -22,11 +22,7 @@ module _ {K V : Type 0} (eq : K → K → Bool) where
   distinct_keys_remove l i d = subst (IsDistinct eq) (sym (keys_of_remove l i)) (distinct_remove eq (keys_of l) i d)
 
   pub distinct_keys_without : (test : K → Bool) (l : List (K × V)) → HasDistinctKeys eq l → HasDistinctKeys eq (without_by test l)
-  distinct_keys_without test l d = subst (HasDistinctKeys eq) (sym (without_by_index test l)) (by (index_by test l))
-    where
-      by : (found : Option ℕ) → HasDistinctKeys eq (option_map_or (λ i. remove l i) found l)
-      by None = d
-      by (Some i) = distinct_keys_remove l i d
+  distinct_keys_without test l d = grind (arith, without_by_index, distinct_keys_remove)
 
   module _ (o : IsEquivalence eq) where
     pub distinct_put : (l : List (K × V)) (k : K) (v : V) → HasDistinctKeys eq l → HasDistinctKeys eq (put eq l k v)
@@ -46,8 +42,4 @@ module _ {K V : Type 0} (eq : K → K → Bool) where
             IsDistinct-tail eq p.0 (keys_of (swap_remove l i p)) (distinct_keys_rearranged l (p ∷ swap_remove l i p) (IsPermutation-swap_remove l i p within at) d)
 
     pub distinct_keys_swap_without_by : (test : K → Bool) (l : List (K × V)) → HasDistinctKeys eq l → HasDistinctKeys eq (swap_without_by test l)
-    distinct_keys_swap_without_by test l d = by (index_by test l)
-      where
-        by : (found : Option ℕ) → HasDistinctKeys eq (option_map_or (λ i. swap_without l i) found l)
-        by None = d
-        by (Some i) = distinct_keys_swap_without l i d
+    distinct_keys_swap_without_by test l d = grind (arith, distinct_keys_swap_without)

@@ -1,6 +1,6 @@
 -- What lookups find in the pairs that a closure has kept.
 use Rattle.std.specs.{List.AllByRecursion, List.IsDistinct, Map.IsKeyTest, Map.keys_of, Option.option_and_then}
-use Rattle.std.proofs.Common.{◌≡◌, ◌∙◌, Bool, true, false, List, [], ◌∷◌, None, Option, Some, ap, cond, if◌then◌else◌, inl, inr, refl, subst, sym}
+use Rattle.std.proofs.Common.{arith, ◌≡◌, ◌∙◌, Bool, true, false, List, [], ◌∷◌, None, Option, Some, ap, cond, if◌then◌else◌, inl, inr, refl, subst, sym}
 use Rattle.std.proofs.lemmas.Bool.{cases_Bool}
 use Rattle.std.proofs.lemmas.Map.Keys.{IsDistinct-head, IsDistinct-tail}
 use Rattle.vecmap_base.specs.{Kept.FiltersValues, Kept.KeepsKeys, Kept.Kept, Kept.ReturnsAtKey, Pairs.HasDistinctKeys, Pairs.lookup_by}
@@ -8,13 +8,8 @@ use Rattle.vecmap_base.specs.{Kept.FiltersValues, Kept.KeepsKeys, Kept.Kept, Kep
 module _ {F K V : Type 0} (R : F → K × V → Bool → K × V → F → Type 0) (same : KeepsKeys R) where
   -- What holds of all keys holds of the keys that are kept.
   all_keys_kept : (P : K → Type 0) (f g : F) (l m : List (K × V)) → Kept R f l m g → AllByRecursion P (keys_of l) → AllByRecursion P (keys_of m)
-  all_keys_kept P f g [] m k h = subst (λ t. AllByRecursion P (keys_of t)) (sym k.0) tt
-  all_keys_kept P f g (p ∷ ps) m k h =
-      subst (λ t. AllByRecursion P (keys_of t)) (sym k.6) (by k.0 (all_keys_kept P k.2 g ps k.3 k.5 h.1))
-    where
-      by : (b : Bool) → AllByRecursion P (keys_of k.3) → AllByRecursion P (keys_of (if b then k.1 ∷ k.3 else k.3))
-      by true r = (subst P (sym (same f p k.0 k.1 k.2 k.4)) h.0, r)
-      by false r = r
+  all_keys_kept P f g [] m k h = grind (arith)
+  all_keys_kept P f g (p ∷ ps) m k h = grind (arith, (all_keys_kept P k.2 g ps k.3 k.5 h.1))
 
   -- Keys stay distinct among those that are kept.
   pub distinct_keys_kept : (eq : K → K → Bool) (f g : F) (l m : List (K × V)) → Kept R f l m g → HasDistinctKeys eq l → HasDistinctKeys eq m

@@ -1,6 +1,6 @@
 -- The keys of a list of pairs, as a list of elements. What changes the pairs changes the keys in the same way.
 use Rattle.std.specs.{Map.keys_of, Option.option_map}
-use Rattle.std.proofs.Common.{◌≡◌, ℕ, suc, Bool, true, false, List, [], ◌∷◌, ◌++◌, Some, drop, if◌then◌else◌, insert, refl, reverse, sym, take, ap, ◌∙◌}
+use Rattle.std.proofs.Common.{arith, ◌≡◌, ℕ, suc, Bool, List, [], ◌∷◌, ◌++◌, Some, drop, if◌then◌else◌, insert, refl, reverse, sym, take, ap, ◌∙◌}
 use Rattle.std.proofs.lemmas.List.{drop-map, map-append, reverse-append, take-map}
 use Rattle.vecmap_base.specs.{Items.add, Items.adds, Items.item_index, Pairs.index_of, Pairs.put, Pairs.puts}
 use Rattle.vecmap_base.proofs.ItemsLemmas.Recursion.{add_cons, item_index_cons}
@@ -22,12 +22,8 @@ module _ {K V : Type 0} (eq : K → K → Bool) where
   index_of_is (p ∷ ps) k = index_of_cons eq p ps k ∙ ap (λ o. if eq k p.0 then Some 0 else option_map suc o) (index_of_is ps k) ∙ sym (item_index_cons eq p.0 (keys_of ps) k)
 
   pub keys_of_put : (l : List (K × V)) (k : K) (v : V) → keys_of (put eq l k v) ≡ add eq (keys_of l) k
-  keys_of_put [] k v = refl
-  keys_of_put (p ∷ ps) k v = ap keys_of (put_cons eq p ps k v) ∙ by (eq k p.0) (keys_of_put ps k v) ∙ sym (add_cons eq p.0 (keys_of ps) k)
-    where
-      by : (b : Bool) → keys_of (put eq ps k v) ≡ add eq (keys_of ps) k → keys_of (if b then (p.0, v) ∷ ps else p ∷ put eq ps k v) ≡ (if b then p.0 ∷ keys_of ps else p.0 ∷ add eq (keys_of ps) k)
-      by true e = refl
-      by false e = ap (λ ks. p.0 ∷ ks) e
+  keys_of_put [] k v = grind (arith, put_cons, add_cons)
+  keys_of_put (p ∷ ps) k v = grind (arith, put_cons, add_cons, (keys_of_put ps k v))
 
   pub keys_of_puts : (l ps : List (K × V)) → keys_of (puts eq l ps) ≡ adds eq (keys_of l) (keys_of ps)
   keys_of_puts l [] = refl

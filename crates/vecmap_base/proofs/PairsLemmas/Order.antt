@@ -1,7 +1,7 @@
 -- What lookups find in another order. A lookup finds the value of a pair whose key passes, and if all keys are distinct
 -- there is one such pair in any order.
 use Rattle.std.specs.{Cmp.IsEquivalence, List.Sorted.IsPermutation, Map.IsKeyTest}
-use Rattle.std.proofs.Common.{◌≡◌, ◌∙◌, Bool, Contains, List, [], ◌∷◌, None, Option, Some, ap, arith, cond, inl, inr, refl, suc, sym, true}
+use Rattle.std.proofs.Common.{◌≡◌, ◌∙◌, Bool, Contains, List, [], ◌∷◌, Some, ap, arith, cond, inl, inr, refl, suc, sym, true}
 use Rattle.std.proofs.lemmas.Bool.{cases_Bool}
 use Rattle.std.proofs.lemmas.List.Sorted.{Contains-permutation, IsPermutation-sym}
 use Rattle.std.proofs.lemmas.Map.Entries.{lookup_from_place}
@@ -30,9 +30,4 @@ module _ {K V : Type 0} (eq : K → K → Bool) (o : IsEquivalence eq) (test : K
 
   -- If all keys are distinct, lookups do not depend on the order.
   pub lookup_by_rearranged : (l m : List (K × V)) → IsPermutation l m → HasDistinctKeys eq l → lookup_by test m ≡ lookup_by test l
-  lookup_by_rearranged l m moved d = by (lookup_by test l) (lookup_by test m) refl refl
-    where
-      by : (x y : Option V) → lookup_by test l ≡ x → lookup_by test m ≡ y → lookup_by test m ≡ lookup_by test l
-      by (Some v) y e f = found_there l m (distinct_keys_rearranged eq o l m moved d) moved v e ∙ sym e
-      by None (Some w) e f = f ∙ sym (found_there m l d (IsPermutation-sym l m moved) w f)
-      by None None e f = f ∙ sym e
+  lookup_by_rearranged l m moved d = grind (arith, found_there, distinct_keys_rearranged, IsPermutation-sym)

@@ -1,5 +1,5 @@
 -- What lookups find in the front of a list, after the insertions of many pairs, and whether anything matches in another order.
-use Rattle.std.specs.{Cmp.IsEquivalence, List.IsDistinct, List.Sorted.IsPermutation, List.list_any, Map.keys_of, Option.option_map, Option.option_or}
+use Rattle.std.specs.{Cmp.IsEquivalence, List.IsDistinct, List.Sorted.IsPermutation, Map.keys_of, Option.option_map, Option.option_or}
 use Rattle.std.proofs.Common.{◌≡◌, ◌∙◌, ◌<◌, ◌≤◌, ℕ, zero, suc, Bool, true, false, List, [], ◌∷◌, ◌++◌, None, Option, Some, ap, arith, cond, if◌then◌else◌, inl, inr, drop, is_some, refl, subst, sym, take}
 use Rattle.std.proofs.lemmas.Bool.{cases_Bool}
 use Rattle.std.proofs.lemmas.List.{length-take, map-append, take-append-drop, take-map, append-nil, append_assoc}
@@ -17,12 +17,8 @@ use Rattle.vecmap_base.proofs.PairsLemmas.{AtIndices.index_in_front, AtIndices.i
 module _ {K V : Type 0} (test : K → Bool) where
   -- A lookup in a list of two parts finds what the first part has, or else what the second has.
   pub lookup_by_append : (a b : List (K × V)) → lookup_by test (a ++ b) ≡ option_or (lookup_by test a) (lookup_by test b)
-  lookup_by_append [] b = refl
-  lookup_by_append (p ∷ ps) b = by (test p.0) (lookup_by_append ps b)
-    where
-      by : (passes : Bool) → lookup_by test (ps ++ b) ≡ option_or (lookup_by test ps) (lookup_by test b) → (if passes then Some p.1 else lookup_by test (ps ++ b)) ≡ option_or (if passes then Some p.1 else lookup_by test ps) (lookup_by test b)
-      by true rest = refl
-      by false rest = rest
+  lookup_by_append [] b = grind (arith)
+  lookup_by_append (p ∷ ps) b = grind (arith, (lookup_by_append ps b))
 
   found_in_front : (n : ℕ) (l : List (K × V)) (i : ℕ) → index_by test l ≡ Some i → i < n → lookup_by test (take n l) ≡ lookup_by test l
   found_in_front n [] i e h = absurd (none-some i e)
@@ -63,10 +59,7 @@ module _ {K V : Type 0} (test : K → Bool) where
 
   -- In another order, a query matches a key exactly if it did.
   pub matches_rearranged : (l m : List (K × V)) → IsPermutation l m → is_some (index_by test m) ≡ is_some (index_by test l)
-  matches_rearranged l m moved = by m ∙ sym (list_any-IsPermutation (λ p. test p.0) l m moved) ∙ sym (by l)
-    where
-      by : (xs : List (K × V)) → is_some (index_by test xs) ≡ list_any (λ p. test p.0) xs
-      by xs = ap is_some (index_by_is test xs) ∙ is_some_position (λ p. test p.0) xs
+  matches_rearranged l m moved = grind (arith, list_any-IsPermutation, index_by_is, is_some_position)
 
 module _ {K V : Type 0} where
   pub keeps_front : (n : ℕ) (l : List (K × V)) → KeepsFront n l (take n l)
@@ -111,13 +104,7 @@ module _ {K V : Type 0} (eq : K → K → Bool) (o : IsEquivalence eq) where
   indices_after test l (p ∷ ps) i e = indices_after test (put eq l p.0 p.1) ps i (indices_put eq test l p.0 p.1 i e)
 
   pub joins_puts : (l pairs : List (K × V)) → Joins eq l pairs (puts eq l pairs)
-  joins_puts l pairs = record {
-    lookups = found_in_either l pairs;
-    distinct = distinct_after l pairs;
-    indices = λ test. indices_after test l pairs;
-    len = length_puts_at_most eq l pairs;
-    not_empty = puts_not_empty eq l pairs;
-  }
+  joins_puts l pairs = grind (arith, found_in_either, distinct_after, indices_after, length_puts_at_most, puts_not_empty)
 
   -- The same of a list that is known to be the one after the insertions.
   pub joins_of_puts : (l pairs m : List (K × V)) → m ≡ puts eq l pairs → Joins eq l pairs m

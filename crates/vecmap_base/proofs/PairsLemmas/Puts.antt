@@ -1,6 +1,6 @@
 -- What insertions make of a list, one at a time and many in order.
 use Rattle.std.specs.Option.{option_and_then, option_map_or}
-use Rattle.std.proofs.Common.{◌≡◌, ℕ, ◌+◌, Bool, List, [], ◌∷◌, ◌++◌, None, Option, Some, true, false, arith, if◌then◌else◌, length, refl, ◌<◌, ◌≤◌, take, ap, ◌∙◌, get_or, unwrap_or}
+use Rattle.std.proofs.Common.{◌≡◌, ℕ, ◌+◌, Bool, List, [], ◌∷◌, ◌++◌, None, Option, Some, arith, length, refl, ◌<◌, ◌≤◌, take, ap, ◌∙◌, get_or, unwrap_or}
 use Rattle.std.proofs.lemmas.List.Sums.{fold_more}
 use Rattle.vecmap_base.specs.Pairs.{index_of, lookup, put, puts, value_at, with_value}
 use Rattle.vecmap_base.proofs.PairsLemmas.ByIndex.{lookup_by_index, put_by_index}
@@ -15,12 +15,8 @@ module _ {K V : Type 0} (eq : K → K → Bool) where
 
   -- An insertion adds at most one pair.
   pub length_put_at_most : (l : List (K × V)) (k : K) (v : V) → length (put eq l k v) ≤ length l + 1
-  length_put_at_most [] k v = omega arith
-  length_put_at_most (p ∷ ps) k v = by (eq k p.0) (length_put_at_most ps k v)
-    where
-      by : (b : Bool) → length (put eq ps k v) ≤ length ps + 1 → length (if b then (p.0, v) ∷ ps else p ∷ put eq ps k v) ≤ length (p ∷ ps) + 1
-      by true h = omega arith
-      by false h = omega (arith, h)
+  length_put_at_most [] k v = grind (arith)
+  length_put_at_most (p ∷ ps) k v = grind (arith, (length_put_at_most ps k v))
 
   -- Insertions add at most as many pairs.
   pub length_puts_at_most : (l ps : List (K × V)) → length (puts eq l ps) ≤ length l + length ps
@@ -29,12 +25,8 @@ module _ {K V : Type 0} (eq : K → K → Bool) where
 
   -- No insertion removes a pair.
   length_put_at_least : (l : List (K × V)) (k : K) (v : V) → length l ≤ length (put eq l k v)
-  length_put_at_least [] k v = omega arith
-  length_put_at_least (p ∷ ps) k v = by (eq k p.0) (length_put_at_least ps k v)
-    where
-      by : (b : Bool) → length ps ≤ length (put eq ps k v) → length (p ∷ ps) ≤ length (if b then (p.0, v) ∷ ps else p ∷ put eq ps k v)
-      by true h = omega arith
-      by false h = omega (arith, h)
+  length_put_at_least [] k v = grind (arith)
+  length_put_at_least (p ∷ ps) k v = grind (arith, (length_put_at_least ps k v))
 
   -- After an insertion the list has a pair.
   pub put_some : (l : List (K × V)) (k : K) (v : V) → 0 < length (put eq l k v)

@@ -1,17 +1,13 @@
 -- What a closure leaves of a list of pairs: how many, which if it only tests them, and all if it keeps all.
-use Rattle.std.proofs.Common.{◌≡◌, ◌∙◌, ◌≤◌, Bool, true, false, List, [], ◌∷◌, None, Some, ap, arith, cond, filter, if◌then◌else◌, inl, inr, length, not, subst, sym}
+use Rattle.std.proofs.Common.{◌≡◌, ◌∙◌, ◌≤◌, Bool, true, List, [], ◌∷◌, None, Some, ap, arith, cond, filter, if◌then◌else◌, inl, inr, length, not, subst, sym}
 use Rattle.std.proofs.lemmas.Bool.{cases_Bool}
 use Rattle.std.proofs.lemmas.Option.{none-some}
 use Rattle.vecmap_base.specs.{Kept.KeepsKeys, Kept.Kept, Kept.Retains, Kept.ReturnsAtKey, Kept.TestsItems, Pairs.lookup_by}
 
 module _ {F X : Type 0} (R : F → X → Bool → X → F → Type 0) where
   pub length_kept : (f g : F) (l m : List X) → Kept R f l m g → length m ≤ length l
-  length_kept f g [] m k = subst (λ t. length t ≤ 0) (sym k.0) (omega arith)
-  length_kept f g (x ∷ xs) m k = subst (λ t. length t ≤ length (x ∷ xs)) (sym k.6) (by k.0 (length_kept k.2 g xs k.3 k.5))
-    where
-      by : (b : Bool) → length k.3 ≤ length xs → length (if b then k.1 ∷ k.3 else k.3) ≤ length (x ∷ xs)
-      by true h = omega (arith, h)
-      by false h = omega (arith, h)
+  length_kept f g [] m k = grind (arith)
+  length_kept f g (x ∷ xs) m k = grind (arith, (length_kept k.2 g xs k.3 k.5))
 
   filter_kept : (keep : X → Bool) (f g : F) (l m : List X) → TestsItems R f keep → Kept R f l m g → m ≡ filter keep l
   filter_kept keep f g [] m told k = k.0
@@ -38,8 +34,4 @@ module _ {F K V : Type 0} (R : F → K × V → Bool → K × V → F → Type 0
 
 -- What the word of contracts says.
 pub retains : {F K V : Type 0} (R : F → K × V → Bool → K × V → F → Type 0) (f : F) (l m : List (K × V)) → ((g : F) × Kept R f l m g) → Retains R f l m
-retains R f l m kept = record {
-  len = length_kept R f kept.0 l m kept.1;
-  filters = λ keep told. filter_kept R keep f kept.0 l m told kept.1;
-  same = λ test none told same. all_pairs_kept R same test f kept.0 l m told kept.1 none;
-}
+retains R f l m kept = grind (arith, length_kept, filter_kept, all_pairs_kept)

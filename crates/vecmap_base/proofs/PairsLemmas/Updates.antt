@@ -1,6 +1,6 @@
 -- What lookups find after a removal and after a write of a value, in the words of contracts.
 use Rattle.std.specs.{Cmp.IsEquivalence, List.AllByRecursion, List.IsDistinct, List.Sorted.IsPermutation, List.swap_remove, Map.AreApart, Map.IsKeyTest, Map.KeepsOthers, Map.keys_of, Map.set_value, Option.option_and_then, Option.option_map_or, Option.option_to_list}
-use Rattle.std.proofs.Common.{◌≡◌, ◌∙◌, ◌-◌, ◌++◌, ℕ, Bool, true, false, List, [], ◌∷◌, None, Option, Some, IfSome, IsSome, ap, cond, get_or, inl, inr, insert, is_some, length, min, refl, remove, slice_get, subst, sym, true≢false}
+use Rattle.std.proofs.Common.{arith, ◌≡◌, ◌∙◌, ◌-◌, ◌++◌, ℕ, Bool, true, false, List, [], ◌∷◌, None, Option, Some, IfSome, IsSome, ap, cond, get_or, inl, inr, insert, is_some, length, min, refl, remove, slice_get, subst, sym, true≢false}
 use Rattle.std.proofs.lemmas.Bool.{cases_Bool}
 use Rattle.std.proofs.lemmas.List.{map-set}
 use Rattle.std.proofs.lemmas.List.Quantifiers.{position-Some}
@@ -24,20 +24,7 @@ module _ {K V : Type 0} (eq : K → K → Bool) (o : IsEquivalence eq) (test : K
   updates_from : (l m : List (K × V)) (w : Option V) → lookup_by test m ≡ w → ((other : K → Bool) → IsKeyTest eq other → AreApart test other → lookup_by other m ≡ lookup_by other l)
       → (HasDistinctKeys eq l → HasDistinctKeys eq m) → UpdatesBy eq test l m w
   unfolding KeepsOthers
-  updates_from l m w here apart distinct =
-      let away : (q : K) → test q ≡ false → lookup eq m q ≡ lookup eq l q =
-      λ q n. apart (eq q) (o.congr q) (λ k h. o.symm q k ∙ sym (respects k q h) ∙ n) in
-      record {
-        lookups = λ q. elim (cases_Bool (test q)) [
-          | inl h ↦ ap (λ f. lookup_by f m) (sym (compares_with eq o test respects q h)) ∙ here ∙ sym (ap (λ b. cond b w (lookup eq l q)) h)
-          | inr n ↦ away q n ∙ sym (ap (λ b. cond b w (lookup eq l q)) n)
-        ];
-        own = here;
-        others = away;
-        queries = apart;
-        distinct = distinct;
-        gone = λ e. index_by_none test m (here ∙ e);
-      }
+  updates_from l m w here apart distinct = grind (arith, cases_Bool, compares_with, index_by_none)
 
   -- The removal of a pair whose key passes, wherever the other pairs go.
   updates_taken : (l s : List (K × V)) (p : K × V) → HasDistinctKeys eq l → test p.0 ≡ true → IsPermutation l (p ∷ s) → UpdatesBy eq test l s None
@@ -65,9 +52,7 @@ module _ {K V : Type 0} (eq : K → K → Bool) (o : IsEquivalence eq) (test : K
 
   -- The same, if the last pair moves to the index.
   pub lookup_by_swap_removed : (l m : List (K × V)) (i : ℕ) (p : K × V) → m ≡ swap_without l i → slice_get l i ≡ Some p → HasDistinctKeys eq l → lookup_by test m ≡ cond (test p.0) None (lookup_by test l)
-  lookup_by_swap_removed l m i p e at d =
-      ap (lookup_by test) (e ∙ ap (λ f. option_map_or (λ q. swap_remove l i q) f l) at)
-      ∙ lookup_by_taken l (swap_remove l i p) p d (IsPermutation-swap_remove l i p (slice_get_within l i p at) (sym (get_or_from_slice_get l i p p at)))
+  lookup_by_swap_removed l m i p e at d = grind (arith, lookup_by_taken, IsPermutation-swap_remove, slice_get_within, get_or_from_slice_get)
 
   key_passes : (l : List (K × V)) (i : ℕ) (p : K × V) → index_by test l ≡ Some i → slice_get l i ≡ Some p → test p.0 ≡ true
   key_passes l i p e at = ap (λ q. test q.0) (sym (get_or_from_slice_get l i p p at)) ∙ (position-Some (λ q. test q.0) l i p (sym (index_by_is test l) ∙ e)).1
@@ -182,18 +167,8 @@ module _ {K V : Type 0} (eq : K → K → Bool) (o : IsEquivalence eq) where
 
   -- An insertion that takes the new key finds the same as one that keeps the old key.
   pub put_key_finds_as_put : (test : K → Bool) → IsKeyTest eq test → (l : List (K × V)) (k : K) (v : V) → lookup_by test (put_key eq l k v) ≡ lookup_by test (put eq l k v)
-  put_key_finds_as_put test respects [] k v = refl
-  put_key_finds_as_put test respects (p ∷ ps) k v =
-      elim (cases_Bool (eq k p.0)) [
-        | inl e ↦
-            ap (λ b. lookup_by test (cond b ((k, v) ∷ ps) (p ∷ put_key eq ps k v))) e
-            ∙ ap (λ b. cond b (Some v) (lookup_by test ps)) (same_answer eq o test respects k p.0 e)
-            ∙ sym (ap (λ b. lookup_by test (cond b ((p.0, v) ∷ ps) (p ∷ put eq ps k v))) e)
-        | inr e ↦
-            ap (λ b. lookup_by test (cond b ((k, v) ∷ ps) (p ∷ put_key eq ps k v))) e
-            ∙ ap (λ r. cond (test p.0) (Some p.1) r) (put_key_finds_as_put test respects ps k v)
-            ∙ sym (ap (λ b. lookup_by test (cond b ((p.0, v) ∷ ps) (p ∷ put eq ps k v))) e)
-      ]
+  put_key_finds_as_put test respects [] k v = grind (arith, cases_Bool, same_answer)
+  put_key_finds_as_put test respects (p ∷ ps) k v = grind (arith, cases_Bool, same_answer, (put_key_finds_as_put test respects ps k v))
 
   -- The keys stay distinct after such an insertion.
   pub distinct_put_key : (l : List (K × V)) (k : K) (v : V) → HasDistinctKeys eq l → HasDistinctKeys eq (put_key eq l k v)

@@ -1,6 +1,6 @@
 -- A list of pairs is determined by its keys and its values, and a write of a value leaves the keys.
-use Rattle.std.specs.{Map.keys_of, Map.values_of, Option.option_map_or}
-use Rattle.std.proofs.Common.{◌≡◌, ℕ, suc, List, [], ◌∷◌, Option, None, Some, length, refl, zero, ◌<◌, slice_get, slice_set, unwrap_or, ap, ◌∙◌, get_or, set, sym}
+use Rattle.std.specs.{Map.keys_of, Map.values_of}
+use Rattle.std.proofs.Common.{arith, ◌≡◌, ℕ, suc, List, [], ◌∷◌, length, refl, zero, ◌<◌, slice_set, unwrap_or, ap, ◌∙◌, get_or, set, sym}
 use Rattle.std.proofs.lemmas.List.{get_or-map}
 use Rattle.vecmap_base.specs.Pairs.{value_at, with_value}
 
@@ -10,20 +10,13 @@ module _ {K V : Type 0} where
 
   -- Two lists with the same keys and the same values are the same.
   pub same_pairs : (l m : List (K × V)) → keys_of l ≡ keys_of m → values_of l ≡ values_of m → l ≡ m
-  same_pairs [] [] e f = refl
-  same_pairs [] (q ∷ qs) e f = absurd (let x : [] ≡ q.0 ∷ keys_of qs = e in cc)
-  same_pairs (p ∷ ps) [] e f = absurd (let x : p.0 ∷ keys_of ps ≡ [] = e in cc)
-  same_pairs (p ∷ ps) (q ∷ qs) e f =
-      let key : p.0 ≡ q.0 = cc in
-      let value : p.1 ≡ q.1 = cc in
-      λ t. (key t, value t) ∷ same_pairs ps qs (cc) (cc) t
+  same_pairs [] [] e f = grind (arith)
+  same_pairs [] (q ∷ qs) e f = grind (arith)
+  same_pairs (p ∷ ps) [] e f = grind (arith)
+  same_pairs (p ∷ ps) (q ∷ qs) e f = grind (arith, (same_pairs ps qs (cc) (cc)))
 
   pub with_value_cons : (p : K × V) (ps : List (K × V)) (i : ℕ) (v : V) → with_value (p ∷ ps) (suc i) v ≡ p ∷ with_value ps i v
-  with_value_cons p ps i v = by (slice_get ps i)
-    where
-      by : (o : Option (K × V)) → option_map_or (λ q. p ∷ slice_set ps i (q.0, v)) o (p ∷ ps) ≡ p ∷ option_map_or (λ q. slice_set ps i (q.0, v)) o ps
-      by None = refl
-      by (Some q) = refl
+  with_value_cons p ps i v = grind (arith, slice_set)
 
   -- If the value at an index is written there again, nothing changes.
   pub with_own_value : (l : List (K × V)) (i : ℕ) (v : V) → with_value l i (unwrap_or (value_at l i) v) ≡ l

@@ -1,5 +1,5 @@
 -- Removals after a write at an index or after an append, and the item that is then found. By induction on the list.
-use Rattle.std.proofs.Common.{◌≡◌, ◌≢◌, ℕ, zero, suc, ◌-◌, ◌<◌, ◌≤◌, List, [], ◌∷◌, ◌++◌, Some, ap, arith, get_or, inl, inr, length, refl, remove, set, slice_get, sym, take, take_at, ◌∙◌}
+use Rattle.std.proofs.Common.{◌≡◌, ℕ, zero, suc, ◌-◌, ◌<◌, List, [], ◌∷◌, ◌++◌, Some, ap, arith, length, refl, remove, set, slice_get, sym, take_at, ◌∙◌}
 use Rattle.std.proofs.Math.Nat.{eq-or-lt_of_le}
 use Rattle.std.proofs.lemmas.List.{get_or-set_other, get_or_default, length-append, length-set, set-set, take-set-le}
 use Rattle.std.specs.List.{swap_remove}
@@ -24,15 +24,7 @@ module _ {X : Type 0} where
   remove_set (y ∷ l) (suc i) x = ap (λ m. y ∷ m) (remove_set l i x)
 
   swap_remove-set : (l : List X) (i : ℕ) (x y : X) → i < length l → swap_remove (set l i x) i x ≡ swap_remove l i y
-  swap_remove-set l i x y h =
-      let n = length l - 1 in
-      let long : length (set l i x) - 1 ≡ n = ap (λ k. k - 1) (length-set l i x) in
-      let within : i ≤ n = omega arith in
-      (λ j. take (long j) (set (set l i x) i (get_or (set l i x) (long j) x))) ∙ ap (take n) (set-set l i x (get_or (set l i x) n x))
-      ∙ elim (eq-or-lt_of_le within) [
-        | inl last ↦ take-set-le n l i _ (omega arith) ∙ sym (take-set-le n l i _ (omega arith))
-        | inr before ↦ let other : n ≢ i = omega arith in ap (λ z. take n (set l i z)) (get_or-set_other l i n x x other ∙ get_or_default l n x y (omega arith))
-      ]
+  swap_remove-set l i x y h = grind (arith, length-set, set-set, eq-or-lt_of_le, take-set-le, get_or-set_other, get_or_default)
 
   pub swap_without_set : (l : List X) (i : ℕ) (x : X) → i < length l → swap_without (set l i x) i ≡ swap_without l i
   swap_without_set l i x h =
@@ -45,9 +37,4 @@ module _ {X : Type 0} where
   set_last (z ∷ l) x y = ap (λ m. z ∷ m) (set_last l x y)
 
   pub swap_without_last : (l : List X) (x : X) → swap_without (l ++ x ∷ []) (length l) ≡ l
-  swap_without_last l x =
-      let m = l ++ x ∷ [] in
-      let long : length m - 1 ≡ length l = omega (arith, length-append l (x ∷ [])) in
-      ap (λ o. option_map_or (λ z. swap_remove m (length l) z) o m) (slice_get_last l x)
-      ∙ (λ j. take (long j) (set m (length l) (get_or m (long j) x)))
-      ∙ take-set-le (length l) m (length l) _ (omega arith) ∙ take_at l (x ∷ []) (length l) refl
+  swap_without_last l x = grind (arith, length-append, slice_get_last, take-set-le, take_at)

@@ -1,9 +1,8 @@
 -- The entry after a write of its value, and the entry that `insert_entry` returns. Each field is a lemma on lists.
-use Rattle.std.proofs.Common.{◌≡◌, ◌<◌, [], ◌∷◌, ◌++◌, None, ap, length, refl, remove, ◌∙◌}
+use Rattle.std.proofs.Common.{arith, ◌≡◌, ◌<◌, [], ◌∷◌, ◌++◌, None, ap, length}
 use Rattle.std.proofs.Math.Bridge.{le_prop}
 use Rattle.std.proofs.Math.Nat.{le_refl}
-use Rattle.vecmap_base.specs.Items.{swap_without}
-use Rattle.vecmap_base.specs.Pairs.{value_at, with_value}
+use Rattle.vecmap_base.specs.Pairs.{with_value}
 use Rattle.vecmap_map.specs.Contents.{KeepsRoomAt, with_value_at}
 use Rattle.vecmap_map.specs.Entry.{IsInserted, LeavesSame, occupied_with}
 use Rattle.vecmap_map.specs.EntryWithin.{still_within}
@@ -19,41 +18,15 @@ module _ {K V : Type 0} (o : OccupiedEntry K V) (v : V) where
   occupied_written h = ap (λ q. record o { map = record o.map { now = with_value_at o.map.now o.index v }; within = q }) (le_prop h (still_within o v))
 
   pub leaves_same : LeavesSame (Occupied o) (Occupied (occupied_with o v))
-  leaves_same = record {
-    write = with_value_twice o.map.now.entries o.index o.within v;
-    removal = remove_written o.map.now.entries o.index o.within v;
-    swap_removal = swap_without_written o.map.now.entries o.index o.within v;
-  }
+  leaves_same = grind (arith, with_value_twice, remove_written, swap_without_written)
 
 -- The entry that `insert_entry` returns.
 module _ {K V : Type 0} (is_clone : K → K → Type 0) where
   pub occupied_inserted : (o : OccupiedEntry K V) (v : V) (h : o.index < length (with_value o.map.now.entries o.index v))
       → IsInserted is_clone (Occupied o) v (record o { map = record o.map { now = with_value_at o.map.now o.index v }; within = h })
-  occupied_inserted o v h = record {
-    same_map = refl;
-    key = refl;
-    index = refl;
-    value = value_at_written o.map.now.entries o.index o.within v;
-    entries = refl;
-    capacity = record { capacity = le_refl _; present = λ _. refl; spare = λ _. refl };
-    write = with_value_twice o.map.now.entries o.index o.within v;
-    removal = remove_written o.map.now.entries o.index o.within v;
-    swap_removal = swap_without_written o.map.now.entries o.index o.within v;
-  }
+  occupied_inserted o v h = grind (arith, value_at_written, le_refl, with_value_twice, remove_written, swap_without_written)
 
   -- The entry d holds the map of e, to which a clone k of the key of e was appended.
   pub vacant_inserted : (e : VacantEntry K V) (v : V) (d : OccupiedEntry K V) (k : K) → is_clone e.key k → d.map.ghost_name ≡ e.map.ghost_name → d.key ≡ e.key → d.index ≡ length e.map.now.entries
       → d.map.now.entries ≡ e.map.now.entries ++ (k, v) ∷ [] → KeepsRoomAt None e.map.now d.map.now → IsInserted is_clone (Vacant e) v d
-  vacant_inserted e v d k clone name key end put room =
-      let l = e.map.now.entries in
-      let p : K × V = (k, v) in record {
-        same_map = name;
-        key = key;
-        index = end;
-        value = (λ j. value_at (put j) (end j)) ∙ value_last l p;
-        entries = (k, clone, put);
-        capacity = room;
-        write = λ w. (k, clone, (λ j. with_value (put j) (end j) w) ∙ with_value_last l p w);
-        removal = (λ j. remove (put j) (end j)) ∙ remove_last l p;
-        swap_removal = (λ j. swap_without (put j) (end j)) ∙ swap_without_last l p;
-      }
+  vacant_inserted e v d k clone name key end put room = grind (arith, value_last, with_value_last, remove_last, swap_without_last)

@@ -1,6 +1,6 @@
 -- What later writes and removals find after a pair was appended or a value was written. A written pair keeps its key,
 -- so each lemma is one of `Indices` on the whole pair.
-use Rattle.std.proofs.Common.{◌≡◌, ℕ, ◌<◌, List, [], ◌∷◌, ◌++◌, Some, ap, length, remove, set, slice_get, sym, ◌∙◌}
+use Rattle.std.proofs.Common.{arith, ◌≡◌, ℕ, ◌<◌, List, [], ◌∷◌, ◌++◌, Some, ap, length, remove, set, slice_get, ◌∙◌}
 use Rattle.std.proofs.lemmas.List.{set-set}
 use Rattle.std.specs.Option.{option_map, option_map_or}
 use Rattle.vecmap_base.specs.Items.{swap_without}
@@ -30,9 +30,7 @@ module _ {K V : Type 0} (l : List (K × V)) (i : ℕ) (h : i < length l) where
   value_at_written v = ap (option_map (λ q. q.1)) (slice_get_written v)
 
   pub with_value_twice : (v w : V) → with_value (with_value l i v) i w ≡ with_value l i w
-  with_value_twice v w =
-      ap (λ o. option_map_or (λ q. set (with_value l i v) i (q.0, w)) o (with_value l i v)) (slice_get_written v)
-      ∙ ap (λ m. set m i (there.0.0, w)) (written v) ∙ set-set l i (there.0.0, v) (there.0.0, w) ∙ sym (written w)
+  with_value_twice v w = grind (arith, slice_get_written, there, written, set-set)
 
   pub remove_written : (v : V) → remove (with_value l i v) i ≡ remove l i
   remove_written v = ap (λ m. remove m i) (written v) ∙ remove_set l i (there.0.0, v)
