@@ -12,12 +12,14 @@ import sys
 
 sys.path.append(os.path.join(os.path.dirname(os.path.abspath(__file__)), "../crates/vecmap"))
 
-from laws_for import closing, items, laws  # noqa: E402, F401
+from laws_for import closing, items  # noqa: E402, F401
 
 # The sources, and the files of definitions and of proofs.
 TEXTS = ("crates/**/*.rt", "crates/**/*.antt")
 LIBRARIES = ["vecmap_base", "vecmap_map", "vecmap_set", "vecmap"]
 LAWS = "vecmap_laws"
+# The crates whose definitions users can meet.
+DEFINED = [*LIBRARIES, LAWS]
 WRITES = sys.argv[1:2] == ["--write"]
 # The comment of a public definition, its indentation, its name, and the rest: lines up to an empty one.
 DEFINITION = re.compile(
@@ -26,6 +28,8 @@ DEFINITION = re.compile(
     re.MULTILINE,
 )
 NAME = re.compile(r"[A-Za-z_][\w']*")
+# The head of an `impl`: its parameters, which may have bounds with parameters, the trait if there is one, and the type.
+IMPL = re.compile(r"impl(?:<(?:->|[^<>]|<(?:->|[^<>]|<[^<>]*>)*>)*>)? (?:(.*) for )?(.*?)(?: where.*)?")
 # A definition: its line, its name, the lines of its comment, and its text, which begins with its module if it has one.
 Definition = collections.namedtuple("Definition", "line name comment text")
 # A block of code: the line that opens it, the words there, and its lines.
@@ -105,6 +109,11 @@ def sources(*crates):
     return files(*(f"crates/{crate}/src/**/*.rt" for crate in crates or ["*"]))
 
 
+def specs(crate):
+    """Returns the files of the definitions of a crate. Those in `formers/` are for the kit, which looks for them."""
+    return [it for it in files(f"crates/{crate}/specs/**/*.antt") if "/formers" not in it]
+
+
 def dependencies():
     """Returns the crates that this repository has, in order, each with those that it depends on."""
     lines = (line.replace(" staticlib", "").split(":") for line in read("crates.txt").splitlines() if ":" in line)
@@ -132,6 +141,50 @@ def crate_of(path):
 def functions(*paths):
     """Returns the functions of some sources."""
     return [it for path in paths for it in items(path) if it.kind == "fn"]
+
+
+def opening(path, between=" "):
+    """Returns the comment at the head of a file, with something between its lines."""
+    found = re.match(r"(?:(?://!|--).*\n)*", read(path))
+    return between.join(re.sub(r"^(?://!|--) ?", "", line) for line in found[0].splitlines())
+
+
+def plain_type(text):
+    """Returns a type or a trait without lifetimes and paths."""
+    text = re.sub(r"'\w+ ?", "", text or "").replace("<, ", "<")
+    text = re.sub(r"\b(?:fmt|sealed)::", "", " ".join(text.split()))
+    return re.sub(r"<(?:_|, )*>", "", text).strip()
+
+
+def trait_and_type(head):
+    """Returns the trait, if there is one, and the type of the head of an `impl` or of a trait."""
+    if trait := re.match(r"(?:pub )?trait (\w+)", head):
+        return "", trait[1]
+    return tuple(map(plain_type, IMPL.fullmatch(head).groups()))
+
+
+def owner_of(item):
+    """Returns the name of the type or trait of an item, or nothing."""
+    head = item.text if item.kind == "impl" else item.impl
+    return trait_and_type(head)[1].split("<")[0] if head else ""
+
+
+def listed(path):
+    """Returns what users see of a source: calls, methods of traits, macros, types, and what a type implements."""
+    found = list(items(path))
+    hidden = {"", "Model", "Sealed", *(it.name for it in found if it.kind == "trait" and not it.is_public)}
+    return [
+        it for it in found
+        if it.is_public or it.kind == "macro_rules!" or it.impl.startswith("pub trait") and it.doc()
+        or it.kind == "impl" and trait_and_type(it.text)[0].split("<")[0] not in hidden
+    ]
+
+
+def uncommented():
+    """Says which public calls, macros and laws have no comment."""
+    for item in (it for crate in DEFINED for path in sources(crate) for it in listed(path)):
+        if item.kind in ("fn", "macro_rules!") and not item.doc():
+            yield f"{item.path}:{item.line}: `{item.name}` has no comment"
 
 
 def blocks(path):

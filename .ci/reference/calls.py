@@ -3,10 +3,9 @@
 import functools
 import re
 
-from made import first_sentence, opening, owner_of
-from rattle import LIBRARIES, crate_of, files, functions, items, sources, table
+from rattle import LIBRARIES, crate_of, files, functions, items, opening, owner_of, sources, table
 from laws_for import public_paths  # on the path by `rattle`
-from reference.forms import module_of
+from reference.forms import first_sentence, module_of
 
 HEAD = ["Call", "Returns", "Errors", "The caller proves", "Cost", "Capacity"]
 # What becomes of the capacity, by what a contract or a cost says of it: the first that is found.

@@ -15,8 +15,8 @@ import string
 import subprocess
 
 import rattle
-from made import DEFINED, first_sentence, opening, trait_and_type
-from rattle import LAWS, LIBRARIES, closing, crate_of, dependencies, files, items, read, sources
+from rattle import DEFINED, LAWS, LIBRARIES, closing, crate_of, dependencies, files, items, opening, read, sources
+from rattle import specs, trait_and_type
 from reference.words import in_words
 from laws_for import modules, public_paths  # on the path by `rattle`
 
@@ -54,6 +54,8 @@ GIVEN = re.compile(
 TWICE = re.compile(r"\b([A-Za-z]\w*)(?: [\w.]+)* \(\1\b")
 # The clauses of a contract that follow from others: from this comment up to the next one.
 FOLLOWS = re.compile(r"^ *// ((?:What follows|Follows).*)\n((?:(?! *//).*\n?)*)", re.MULTILINE)
+# The first sentence of a text. A `..` ends none, nor does a stop within backticks.
+SENTENCE = re.compile(r"(?:`[^`]*`|[^`])*?(?<!\.)\.(?=\s|$)|.*", re.DOTALL)
 # What each definition says, by its path; the true source of each form; and how a search finds each function of no type.
 KNOWN, FILES, ALIASES = {}, {}, {}
 # The sentence and the text of each definition of these crates, by its path.
@@ -68,6 +70,13 @@ OWN_WORDS = "_ Self self result where abbrev pub data record module unfoldable".
 def crates():
     """Returns the libraries and the laws, each after those that it depends on, with these."""
     return {name: needs for name, needs in dependencies().items() if name in DEFINED}
+
+
+def first_sentence(text):
+    """Returns the first sentence of a comment, without the brackets and paths of its links."""
+    text = " ".join(SENTENCE.match(text.split("\n\n")[0])[0].split())
+    text = re.sub(r"\[(`[^`\]]+`)\](?:\([^)]*\))?", r"\1", text)
+    return re.sub(r"`(?:VecMap|VecSet|Self|crate|vecmap_base)::(\w+)`", r"`\1`", text)
 
 
 def blank(text):
@@ -428,11 +437,6 @@ def constant(name, comment, text, path, names, crate, at):
     parts = [*told, block(text, names, crate, at), "\n".join(fields(name, text, at))]
     parts += [f"```text\nghost use Rattle.{path.replace('::', '.')}.{{{name}}};\n```"]
     return doc("\n\n".join(parts)) + f"pub const r#{name}: () = ();"
-
-
-def specs(crate):
-    """Returns the files of the definitions of a crate. Those in `formers/` are for the kit, which looks for them."""
-    return [it for it in files(f"crates/{crate}/specs/**/*.antt") if "/formers" not in it]
 
 
 def module_of(path):

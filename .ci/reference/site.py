@@ -10,12 +10,11 @@ import subprocess
 import tempfile
 import urllib.parse
 
-from made import first_sentence, listed, opening, uncommented
-from rattle import LAWS, LIBRARIES, read, sources, write
+from rattle import LAWS, LIBRARIES, listed, opening, read, sources, uncommented, write
 from reference.calls import call_table
 from reference.forms import (
-    FILES, KNOWN, LOST, PASSED_ON, STD, TEXTS, crates, definition_form, definitions, doc, found_by, imported, kit,
-    meanings, module_of, module_tree, passed_on, passing_on, rust_of, section, specs, words_of_std,
+    FILES, KNOWN, LOST, PASSED_ON, STD, TEXTS, crates, definition_form, definitions, doc, first_sentence, found_by,
+    imported, kit, meanings, module_of, module_tree, passed_on, passing_on, rust_of, section, specs, words_of_std,
 )  # fmt: skip
 
 HERE = os.path.dirname(os.path.abspath(__file__))
