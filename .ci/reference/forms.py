@@ -15,7 +15,7 @@ import string
 import subprocess
 
 import rattle
-from rattle import DEFINED, LAWS, LIBRARIES, closing, crate_of, dependencies, files, items, opening, read, sources
+from rattle import DEFINED, LAWS, LIBRARIES, closing, crate_of, dependencies, items, opening, read, sources
 from rattle import specs, trait_and_type
 from reference.words import in_words
 from laws_for import modules, public_paths  # on the path by `rattle`
@@ -184,22 +184,14 @@ def labelled(text):
     return f'{escaped(found[1])}<abbr title="{meaning}">{escaped(found[2])}</abbr>{escaped(found[3])}'
 
 
-@functools.cache
-def field_examples():
-    """Returns what an example says of a field of a record, by both names."""
-    lemma = re.compile(r"^ *\w+-(\w+) : (\w+) [^→]*→ (.*)$", re.MULTILINE)
-    found = (lemma.findall(read(it)) for it in files("crates/vecmap_definitions/proofs/*.antt"))
-    return {(record, field): text for lemmas in found for field, record, text in lemmas}
-
-
 def fields(name, text, at):
-    """Yields the words of each field of a record, with an example if there is one."""
+    """Yields the words of each field of a record."""
     for field in re.findall(r"^ *pub (\w+) :", text, re.MULTILINE) if "pub record " in text else ():
-        told, example = meanings()["Labels"] | meanings()["Fields of records"], field_examples().get((name, field))
+        told = meanings()["Labels"] | meanings()["Fields of records"]
         meaning = told.get(f"{name}.{field}") or told.get(field)
         if not meaning:
             LOST.append(f"{at}: contracts.md has no field `{field}`")
-        yield f"- `{field}`: {meaning}" + (f" For instance, `{example}`." if example else "")
+        yield f"- `{field}`: {meaning}"
 
 
 def leads(word, names, bound):

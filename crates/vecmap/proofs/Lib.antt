@@ -1,1 +1,3 @@
+mod MapRunExamples
 pub mod RunLemmas
+mod SetRunExamples

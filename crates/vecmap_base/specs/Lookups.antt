@@ -1,5 +1,4 @@
--- What lookups find after a change of a list of pairs. `eq` is the `==` of keys. `proofs/Lookups.antt` of
--- `vecmap_definitions` has examples of what each field says.
+-- What lookups find after a change of a list of pairs. `eq` is the `==` of keys.
 use Rattle.std.specs.Prelude.{◌≡◌, ◌+◌, ◌<◌, ◌≤◌, ℕ, Bool, IsTrue, List, None, Option, Some, cond, false, is_some, length, min, position, slice_get, slice_set, take, true}
 use Rattle.std.specs.List.{list_any}
 use Rattle.std.specs.Option.{option_or}

@@ -1,2 +1,0 @@
-//! What definitions say, at examples: lemmas in `proofs/`, and no functions.
-#![tactic(auto)]
