@@ -1,268 +1,197 @@
-//! How often the calls that count their comparisons compare. A contract has those that its counter counts, and a call
-//! whose keys have an `==` might make others.
-ghost use Rattle.std.specs.Prelude.{◌≡◌};
+//! How often keys are compared and closures called. The keys and elements of a test case have more than 16 bytes and
+//! cannot be copied, and a counter is in contracts alone: these tests have keys of 8 and 16 bytes, and count by `==`.
+ghost use Rattle.std.specs.Prelude.{◌≡◌, nat_eq};
+ghost use Rattle.std.specs.Cmp.{nat_eq_equiv, partial_equiv_from_equiv};
 
-use crate::checks::assert_gives;
-use crate::counted::Counted;
+use crate::checks::{assert_gives, assert_is, assert_list, granted};
 use std::alloc::{AllocError, Global};
 use std::cell::Cell;
+use std::cmp::Ordering;
 use std::marker::Brand;
 use std::sync::ledger::{Blank, Ledger};
 use vecmap::{Counter, VecMap, VecSet};
+use vecmap_base::{find_equivalent_counted, find_item_equivalent_counted, partition_point};
 
-/// Returns a key that counts its comparisons.
-fn key(number: u32, comparisons: &Cell<u32>) -> Counted<'_> {
-    Counted {
-        number,
-        comparisons,
-    }
-}
-
-/// Returns a vector of such keys.
-fn keys<'a>(
-    alloc: Global,
-    numbers: &[u32],
+/// A number, in an item of 16 bytes. A comparison of two counts for the first.
+#[derive(Clone, Copy)]
+struct Counted<'a> {
+    number: u32,
     comparisons: &'a Cell<u32>,
-) -> Result<Vec<Counted<'a>>, AllocError> {
-    let mut counted = Vec::new(alloc);
-    for number in numbers {
-        counted.push(key(*number, comparisons))?;
+}
+
+impl PartialEq for Counted<'_> {
+    ghost eq = { λ a b. nat_eq a.number b.number };
+
+    ghost laws = { partial_equiv_from_equiv (record { refl = λ a. nat_eq_equiv.refl a.number; symm = λ a b. nat_eq_equiv.symm a.number b.number; congr = λ a b c. nat_eq_equiv.congr a.number b.number c.number }) };
+
+    fn eq(&self, other: &Counted<'_>) -> bool {
+        note(self.comparisons);
+        self.number == other.number
     }
-    Ok(counted)
 }
 
-/// Returns the number of comparisons since the last call.
-fn taken(comparisons: &Cell<u32>) -> u32 {
-    let made = comparisons.get();
-    comparisons.set(0);
-    made
+impl Eq for Counted<'_> {
+    ghost laws = { record { refl = λ a. nat_eq_equiv.refl a.number; symm = λ a b. nat_eq_equiv.symm a.number b.number; congr = λ a b c. nat_eq_equiv.congr a.number b.number c.number } };
 }
 
-/// Returns a map of these two numbers.
-fn map_of(
+fn note(calls: &Cell<u32>) {
+    calls.set(calls.get().wrapping_add(1));
+}
+
+/// Returns the numbers up to 40.
+fn numbers(alloc: Global, comparisons: &Cell<u32>) -> Result<Vec<Counted<'_>>, AllocError> {
+    let mut numbers = Vec::new(alloc);
+    for number in 0..41 {
+        numbers.push(Counted {
+            number,
+            comparisons,
+        })?;
+    }
+    Ok(numbers)
+}
+
+/// Returns how often the two searches that count compare a query, with keys and with elements.
+fn comparisons_with<K: Eq + Copy, L: Ledger>(
     alloc: Global,
-    first: u32,
-    second: u32,
+    items: &[K],
+    query: &K,
     comparisons: &Cell<u32>,
-) -> Result<VecMap<Counted<'_>, u32>, AllocError> {
-    let mut map = VecMap::new(alloc);
-    map.insert(key(first, comparisons), first)?;
-    map.insert(key(second, comparisons), second)?;
+    counter: &mut Counter<L>,
+) -> Result<(u32, u32), AllocError> {
+    let mut pairs = Vec::new(alloc);
+    for item in items {
+        pairs.push((*item, ()))?;
+    }
     comparisons.set(0);
-    Ok(map)
+    let _index = find_equivalent_counted(&pairs, query, counter);
+    let of_pairs = comparisons.replace(0);
+    let _index = find_item_equivalent_counted(items, query, counter);
+    Ok((of_pairs, comparisons.get()))
 }
 
-/// Returns a set of these two numbers.
-fn set_of(
+/// Returns how often these searches compare 0, 20, 40 and 41 with the numbers up to 40, and with references to them.
+fn comparisons_of_searches<L: Ledger>(
     alloc: Global,
-    first: u32,
-    second: u32,
-    comparisons: &Cell<u32>,
-) -> Result<VecSet<Counted<'_>>, AllocError> {
-    let mut set = VecSet::new(alloc);
-    set.insert(key(first, comparisons))?;
-    set.insert(key(second, comparisons))?;
+    blank: Blank,
+) -> Result<Vec<[(u32, u32); 2]>, AllocError>
+    requires same_name { blank.name ≡ L.name }
+    requires same_parts { blank.parts ≡ L.parts }
+    requires one_part { blank.parts ≡ 1 }
+{
+    let mut counter: Counter<L> = Counter::open(blank);
+    let comparisons = &Cell::new(0);
+    let numbers = numbers(alloc, comparisons)?;
+    let mut references = Vec::new(alloc);
+    for number in &numbers {
+        references.push(number)?;
+    }
+    let mut made = Vec::new(alloc);
+    for number in [0, 20, 40, 41] {
+        let query = &Counted {
+            number,
+            comparisons,
+        };
+        let large = comparisons_with(alloc, &numbers, query, comparisons, &mut counter)?;
+        let small = comparisons_with(alloc, &references, &query, comparisons, &mut counter)?;
+        made.push([large, small])?;
+    }
+    Ok(made)
+}
+
+// Among elements of 8 bytes, up to seven comparisons come after the match.
+#[test]
+fn searches_that_count_compare_no_further_than_the_match(rt: HostRuntime) {
+    let made = granted(
+        &rt,
+        comparisons_of_searches::<Brand>(rt.alloc(), Blank::new(1)),
+    );
+    assert_list(
+        &rt,
+        &made,
+        &[
+            [(1, 1), (1, 8)],
+            [(21, 21), (21, 24)],
+            [(41, 41), (41, 41)],
+            [(41, 41), (41, 41)],
+        ],
+    );
+}
+
+/// Extends the set of the numbers up to 40 by a copy of 41, by the inherent call or by the trait. Returns the number of
+/// comparisons, and the new length.
+fn extended(alloc: Global, by_trait: bool) -> Result<(u32, usize), AllocError> {
+    let comparisons = &Cell::new(0);
+    let mut set = VecSet::from(numbers(alloc, comparisons)?);
+    let more = [Counted {
+        number: 41,
+        comparisons,
+    }];
     comparisons.set(0);
-    Ok(set)
-}
-
-/// Returns how often each lookup of a number compares, in a map of 3 and 4.
-fn lookups_in_a_map<L: Ledger>(
-    alloc: Global,
-    blank: Blank,
-    number: u32,
-) -> Result<[u32; 3], AllocError>
-    requires same_name { blank.name ≡ L.name }
-    requires same_parts { blank.parts ≡ L.parts }
-    requires one_part { blank.parts ≡ 1 }
-{
-    let mut counter: Counter<L> = Counter::open(blank);
-    let comparisons = &Cell::new(0);
-    let map = map_of(alloc, 3, 4, comparisons)?;
-    let query = key(number, comparisons);
-    let _value = map.get_counted(&query, &mut counter);
-    let get = taken(comparisons);
-    let _index = map.get_index_of_counted(&query, &mut counter);
-    let get_index_of = taken(comparisons);
-    let _found = map.contains_key_counted(&query, &mut counter);
-    Ok([get, get_index_of, taken(comparisons)])
-}
-
-/// Returns how often a map of 3 and 4 compares when a number gets an entry, is inserted, and is removed.
-fn changes_of_a_map<L: Ledger>(
-    alloc: Global,
-    blank: Blank,
-    number: u32,
-) -> Result<[u32; 3], AllocError>
-    requires same_name { blank.name ≡ L.name }
-    requires same_parts { blank.parts ≡ L.parts }
-    requires one_part { blank.parts ≡ 1 }
-{
-    let mut counter: Counter<L> = Counter::open(blank);
-    let comparisons = &Cell::new(0);
-    let mut map = map_of(alloc, 3, 4, comparisons)?;
-    let _index = map
-        .entry_counted(key(number, comparisons), &mut counter)
-        .index();
-    let entry = taken(comparisons);
-    map.insert_counted(key(number, comparisons), 0, &mut counter)?;
-    let insert = taken(comparisons);
-    let _value = map.remove_counted(&key(number, comparisons), &mut counter);
-    Ok([entry, insert, taken(comparisons)])
+    if by_trait {
+        Extend::extend(&mut set, &more)?;
+    } else {
+        set.extend_copied(&more)?;
+    }
+    Ok((comparisons.get(), set.len()))
 }
 
 #[test]
-fn a_counted_call_of_a_map_compares_up_to_the_match(rt: HostRuntime) {
-    let found = lookups_in_a_map::<Brand>(rt.alloc(), Blank::new(1), 4);
-    assert_gives(&rt, found, [2, 2, 2]);
-    let changed = changes_of_a_map::<Brand>(rt.alloc(), Blank::new(1), 4);
-    assert_gives(&rt, changed, [2, 2, 2]);
+fn a_copy_is_compared_with_each_of_many_elements_once(rt: HostRuntime) {
+    assert_gives(&rt, extended(rt.alloc(), false), (41, 42));
+    assert_gives(&rt, extended(rt.alloc(), true), (41, 42));
 }
 
+/// Compares a number with 50, and notes the call.
+fn order(calls: &Cell<u32>, number: &u64) -> Ordering {
+    note(calls);
+    number.cmp(&50)
+}
+
+/// Returns how often searches of a set and of a map of 100 numbers call their closures. The pairs have 40 bytes.
+fn calls_of_searches(alloc: Global) -> Result<[u32; 4], AllocError> {
+    let (mut set, mut map) = (VecSet::new(alloc), VecMap::new(alloc));
+    for number in 0..100 {
+        set.insert(number)?;
+        map.insert(number, [number; 4])?;
+    }
+    let calls = &Cell::new(0);
+    let _at = set.partition_point(|number| order(calls, number).is_lt());
+    let first = calls.replace(0);
+    let _at = map.partition_point(|number, _value| order(calls, number).is_lt());
+    let second = calls.replace(0);
+    let _found = set.binary_search_by(|number| order(calls, number));
+    let third = calls.replace(0);
+    let _found = map.binary_search_by(|number, _value| order(calls, number));
+    Ok([first, second, third, calls.get()])
+}
+
+/// Returns how often a search of these numbers calls its closure, if they are searched like keys of this type.
+fn calls_by_size_of<C>(numbers: &[u64]) -> u32 {
+    let calls = &Cell::new(0);
+    let _at = partition_point::<C, _, _>(numbers, |number| order(calls, number).is_lt());
+    calls.get()
+}
+
+// It is 11 calls by quarters, and 8 by halves. A `&str` has 16 bytes.
+// body: items of 9 to 16 bytes are searched like small ones
 #[test]
-fn a_counted_call_of_a_map_compares_with_each_key_if_none_matches(rt: HostRuntime) {
-    let found = lookups_in_a_map::<Brand>(rt.alloc(), Blank::new(1), 5);
-    assert_gives(&rt, found, [2, 2, 2]);
-    let changed = changes_of_a_map::<Brand>(rt.alloc(), Blank::new(1), 5);
-    assert_gives(&rt, changed, [2, 2, 3]);
-}
-
-/// Returns how often a map of 3, 4 and 3 compares when it is created, and when 4 and 5, and then 4 and 6, are added.
-fn comparisons_of_many_pairs<L: Ledger>(alloc: Global, blank: Blank) -> Result<[u32; 3], AllocError>
-    requires same_name { blank.name ≡ L.name }
-    requires same_parts { blank.parts ≡ L.parts }
-    requires one_part { blank.parts ≡ 1 }
-{
-    let mut counter: Counter<L> = Counter::open(blank);
-    let comparisons = &Cell::new(0);
-    let mut other = map_of(alloc, 4, 6, comparisons)?;
-    let pairs = [
-        (key(3, comparisons), 3),
-        (key(4, comparisons), 4),
-        (key(3, comparisons), 3),
-    ];
-    let mut map = VecMap::from_iter_counted(alloc, pairs, &mut counter)?;
-    let created = taken(comparisons);
-    let pairs = [(key(4, comparisons), 4), (key(5, comparisons), 5)];
-    map.extend_counted(pairs, &mut counter)?;
-    let extended = taken(comparisons);
-    map.append_counted(&mut other, &mut counter)?;
-    Ok([created, extended, taken(comparisons)])
-}
-
-#[test]
-fn each_of_many_counted_pairs_is_looked_up_once(rt: HostRuntime) {
-    let made = comparisons_of_many_pairs::<Brand>(rt.alloc(), Blank::new(1));
-    assert_gives(&rt, made, [2, 4, 5]);
-}
-
-/// Returns how often each lookup of a number compares, in a set of 3 and 4.
-fn lookups_in_a_set<L: Ledger>(
-    alloc: Global,
-    blank: Blank,
-    number: u32,
-) -> Result<[u32; 3], AllocError>
-    requires same_name { blank.name ≡ L.name }
-    requires same_parts { blank.parts ≡ L.parts }
-    requires one_part { blank.parts ≡ 1 }
-{
-    let mut counter: Counter<L> = Counter::open(blank);
-    let comparisons = &Cell::new(0);
-    let set = set_of(alloc, 3, 4, comparisons)?;
-    let query = key(number, comparisons);
-    let _found = set.contains_counted(&query, &mut counter);
-    let contains = taken(comparisons);
-    let _stored = set.get_counted(&query, &mut counter);
-    let get = taken(comparisons);
-    let _index = set.get_index_of_counted(&query, &mut counter);
-    Ok([contains, get, taken(comparisons)])
-}
-
-/// Returns how often a set of 3 and 4 compares when a number is inserted, and when it is removed.
-fn changes_of_a_set<L: Ledger>(
-    alloc: Global,
-    blank: Blank,
-    number: u32,
-) -> Result<[u32; 2], AllocError>
-    requires same_name { blank.name ≡ L.name }
-    requires same_parts { blank.parts ≡ L.parts }
-    requires one_part { blank.parts ≡ 1 }
-{
-    let mut counter: Counter<L> = Counter::open(blank);
-    let comparisons = &Cell::new(0);
-    let mut set = set_of(alloc, 3, 4, comparisons)?;
-    set.insert_counted(key(number, comparisons), &mut counter)?;
-    let insert = taken(comparisons);
-    let _removed = set.remove_counted(&key(number, comparisons), &mut counter);
-    Ok([insert, taken(comparisons)])
-}
-
-#[test]
-fn a_counted_call_of_a_set_compares_up_to_the_match(rt: HostRuntime) {
-    let found = lookups_in_a_set::<Brand>(rt.alloc(), Blank::new(1), 4);
-    assert_gives(&rt, found, [2, 2, 2]);
-    let changed = changes_of_a_set::<Brand>(rt.alloc(), Blank::new(1), 4);
-    assert_gives(&rt, changed, [2, 2]);
-}
-
-#[test]
-fn a_counted_call_of_a_set_compares_with_each_element_if_none_matches(rt: HostRuntime) {
-    let found = lookups_in_a_set::<Brand>(rt.alloc(), Blank::new(1), 5);
-    assert_gives(&rt, found, [2, 2, 2]);
-    let changed = changes_of_a_set::<Brand>(rt.alloc(), Blank::new(1), 5);
-    assert_gives(&rt, changed, [2, 3]);
-}
-
-/// Returns how often a set of 0, 1, 0 and 2 compares when it is created, and when 1 and 3, and then 1 and 4, are added.
-fn comparisons_of_many_elements<L: Ledger>(
-    alloc: Global,
-    blank: Blank,
-) -> Result<[u32; 3], AllocError>
-    requires same_name { blank.name ≡ L.name }
-    requires same_parts { blank.parts ≡ L.parts }
-    requires one_part { blank.parts ≡ 1 }
-{
-    let mut counter: Counter<L> = Counter::open(blank);
-    let comparisons = &Cell::new(0);
-    let mut other = set_of(alloc, 1, 4, comparisons)?;
-    let numbers = keys(alloc, &[0, 1, 0, 2], comparisons)?;
-    let mut set = VecSet::from_iter_counted(alloc, numbers, &mut counter)?;
-    let created = taken(comparisons);
-    let numbers = keys(alloc, &[1, 3], comparisons)?;
-    set.extend_counted(numbers, &mut counter)?;
-    let extended = taken(comparisons);
-    set.append_counted(&mut other, &mut counter)?;
-    Ok([created, extended, taken(comparisons)])
-}
-
-#[test]
-fn each_of_many_counted_elements_is_looked_up_once(rt: HostRuntime) {
-    let made = comparisons_of_many_elements::<Brand>(rt.alloc(), Blank::new(1));
-    assert_gives(&rt, made, [4, 5, 6]);
-}
-
-/// Returns how often the relations of two sets compare: the numbers below 4, and 3 and 5.
-fn comparisons_of_two_sets<L: Ledger>(alloc: Global, blank: Blank) -> Result<[u32; 4], AllocError>
-    requires same_name { blank.name ≡ L.name }
-    requires same_parts { blank.parts ≡ L.parts }
-    requires one_part { blank.parts ≡ 1 }
-{
-    let mut counter: Counter<L> = Counter::open(blank);
-    let comparisons = &Cell::new(0);
-    let set = VecSet::from_iter(alloc, keys(alloc, &[0, 1, 2, 3], comparisons)?)?;
-    let other = set_of(alloc, 3, 5, comparisons)?;
-    let _is_superset = set.is_superset_counted(&other, &mut counter);
-    let superset = taken(comparisons);
-    let _is_subset = set.is_subset_counted(&other, &mut counter);
-    let subset = taken(comparisons);
-    let _is_disjoint = set.is_disjoint_counted(&other, &mut counter);
-    let disjoint = taken(comparisons);
-    let _is_disjoint = other.is_disjoint_counted(&set, &mut counter);
-    Ok([superset, subset, disjoint, taken(comparisons)])
-}
-
-#[test]
-fn counted_calls_of_two_sets_look_up_the_elements_of_the_shorter_one(rt: HostRuntime) {
-    let made = comparisons_of_two_sets::<Brand>(rt.alloc(), Blank::new(1));
-    assert_gives(&rt, made, [8, 0, 4, 4]);
+fn only_keys_of_at_most_eight_bytes_are_searched_by_quarters(rt: HostRuntime) {
+    assert_gives(&rt, calls_of_searches(rt.alloc()), [11; 4]);
+    let numbers = [0; 100];
+    for calls in [
+        calls_by_size_of::<()>(&numbers),
+        calls_by_size_of::<u64>(&numbers),
+        calls_by_size_of::<[u8; 8]>(&numbers),
+        calls_by_size_of::<&u128>(&numbers),
+    ] {
+        assert_is(&rt, calls, 11);
+    }
+    for calls in [
+        calls_by_size_of::<[u8; 9]>(&numbers),
+        calls_by_size_of::<(u64, u8)>(&numbers),
+        calls_by_size_of::<&str>(&numbers),
+        calls_by_size_of::<String>(&numbers),
+    ] {
+        assert_is(&rt, calls, 8);
+    }
 }

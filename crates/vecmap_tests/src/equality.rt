@@ -1,55 +1,63 @@
-//! Equality of maps whose values are maps, or may differ from themselves.
-use crate::checks::{assert_is, granted};
-use crate::counted::Counted;
+//! Equality of maps whose values may differ from themselves, as no value of a test case does, and of more pairs than a
+//! line of a test case can have.
+use crate::checks::{assert_gives, assert_is};
 use std::alloc::{AllocError, Global};
-use std::cell::Cell;
-use std::process::Abort;
 use vecmap::VecMap;
+use vecmap_base::pairs_equal;
 
-// Creates a map of one pair, whose value is a map of these two numbers.
-fn nested<'a>(
+/// Returns whether the maps of some pairs are equal.
+fn are_equal(
     alloc: Global,
-    comparisons: &'a Cell<u32>,
-    numbers: [u32; 2],
-) -> Result<VecMap<char, VecMap<Counted<'a>, u32>>, AllocError> {
-    let pairs = numbers.map(|number| (
-        Counted {
-            number,
-            comparisons,
-        },
-        number,
-    ));
-    VecMap::from_array(alloc, [('a', VecMap::from_array(alloc, pairs)?)])
-}
-
-#[test]
-fn maps_in_maps_are_compared_once(rt: HostRuntime) {
-    let comparisons = Cell::new(0);
-    let one = granted(&rt, nested(rt.alloc(), &comparisons, [1, 2]));
-    let other = granted(&rt, nested(rt.alloc(), &comparisons, [1, 3]));
-    let before = comparisons.get();
-    assert_is(&rt, one == other, false);
-    assert_is(&rt, comparisons.get().wrapping_sub(before), 2);
-}
-
-// Whether the maps of two vectors of numbers are equal.
-fn are_equal(rt: &impl Abort, alloc: Global, pairs: &[(u32, f64)], others: &[(u32, f64)]) -> bool {
-    let map = VecMap::from(granted(rt, pairs.to_vec(alloc)));
-    let other = VecMap::from(granted(rt, others.to_vec(alloc)));
-    map == other
+    pairs: &[(u32, f64)],
+    others: &[(u32, f64)],
+) -> Result<bool, AllocError> {
+    Ok(VecMap::from(pairs.to_vec(alloc)?) == VecMap::from(others.to_vec(alloc)?))
 }
 
 #[test]
 fn a_value_that_differs_from_itself_is_in_no_equal_map(rt: HostRuntime) {
     let nan = f64::NAN;
     for (pairs, others, is_equal) in [
-        ([(1, 0.5), (2, 1.5)], [(2, 1.5), (1, 0.5)], true),
-        ([(1, 0.0), (2, 1.5)], [(1, -0.0), (2, 1.5)], true),
+        ([(1, 0.0), (2, 1.5)], [(2, 1.5), (1, -0.0)], true),
         ([(1, nan), (2, 1.5)], [(1, nan), (2, 1.5)], false),
         ([(1, 0.5), (2, nan)], [(2, nan), (1, 0.5)], false),
         ([(1, 0.5), (1, nan)], [(1, 0.5), (1, 0.5)], false),
     ] {
-        let found = are_equal(&rt, rt.alloc(), &pairs, &others);
-        assert_is(&rt, found, is_equal);
+        assert_gives(&rt, are_equal(rt.alloc(), &pairs, &others), is_equal);
     }
+}
+
+/// Returns the pairs of the first 16,390 numbers, in descending order, with one value.
+fn many_pairs(alloc: Global, value: f64) -> Result<Vec<(u32, f64)>, AllocError> {
+    let mut pairs = Vec::new(alloc);
+    for number in 0..16390 {
+        pairs.push((number, value))?;
+    }
+    pairs.reverse();
+    Ok(pairs)
+}
+
+/// Returns whether as many pairs are equal to these: others with another value or a NaN, and these with a duplicate of 0
+/// in place of 1.
+fn are_many_equal(alloc: Global) -> Result<[bool; 3], AllocError> {
+    let pairs = many_pairs(alloc, 0.5)?;
+    let mut others = pairs.clone()?;
+    let is_equal = pairs_equal(&others, &many_pairs(alloc, 0.25)?);
+    others.reverse();
+    if let Some(pair) = others.get_mut(1) {
+        *pair = (0, 0.5);
+    }
+    let nans = many_pairs(alloc, f64::NAN)?;
+    Ok([
+        is_equal,
+        pairs_equal(&nans, &nans),
+        pairs_equal(&others, &pairs),
+    ])
+}
+
+// Up to 16,384 pairs are marked, and more are counted. As many equal pairs in another order would take too long.
+// body: `==` of maps looks from one side if there are duplicate keys, by counts
+#[test]
+fn many_pairs_are_equal_if_each_occurs_equally_often(rt: HostRuntime) {
+    assert_gives(&rt, are_many_equal(rt.alloc()), [false; 3]);
 }

@@ -1,6 +1,7 @@
-//! Tests of what the test cases of `vecmap_script` cannot show, since their keys, values and elements have one type:
-//! other types, macros, and queries of each kind. Tests of functions of the pages and of `vecmap_trees` whose contracts
-//! do not say everything. And small callers, in which the mutants in `must-fail` make bugs.
+//! Tests of what no test case of `vecmap_script` can show, since the keys, values and elements there have one type: it has
+//! more than 16 bytes, prints, and cannot be copied. The head of each file says what its tests have instead. Tests of
+//! functions of the pages and of `vecmap_trees` whose contracts do not say everything. And small callers, in which the
+//! mutants in `must-fail` make bugs.
 #![tactic(auto)]
 
 #[cfg(test)]
@@ -11,15 +12,9 @@ mod clones;
 mod comparisons;
 pub mod conditions;
 #[cfg(test)]
-mod counted;
-#[cfg(test)]
-mod counting;
-#[cfg(test)]
 mod equality;
 #[cfg(test)]
 mod equivalent;
-#[cfg(test)]
-mod macros;
 #[cfg(test)]
 mod markers;
 #[cfg(test)]
@@ -34,10 +29,6 @@ pub mod program;
 pub mod readme;
 #[cfg(test)]
 mod refusals;
-#[cfg(test)]
-mod sizes;
-#[cfg(test)]
-mod texts;
 #[cfg(test)]
 mod trees;
 #[cfg(test)]

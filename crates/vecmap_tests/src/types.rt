@@ -1,79 +1,125 @@
-//! Keys and values of other types: four kinds of pairs, and a value that does not print. Types that threads may share.
-use crate::checks::{assert_is, assert_list, granted};
-use std::alloc::Global;
+//! Keys, values and elements of other types than those of a test case: texts, truth values, and values that do not print.
+//! And the macros, which a test case can only give three pairs or elements.
+use crate::checks::assert_prints;
+use std::alloc::{AllocError, Global};
+use std::cell::Cell;
 use std::fmt::Debug;
-use std::process::Abort;
 use std::test::Fail;
-use vecmap::{Refused, VecMap, VecSet};
+use vecmap::{VecMap, VecSet, vecmap, vecset};
+use vecmap_base::{find_item_str, find_str};
 
-// Asserts that a map of pairs with distinct keys has them as they are.
-fn assert_kept<K: Eq + Clone + Debug + Drop, V: PartialEq + Clone + Debug + Drop>(
-    rt: &impl Abort,
+/// Prints the map of some pairs.
+fn print_map<K: Eq + Clone + Debug + Drop, V: Clone + Debug + Drop>(
     alloc: Global,
     pairs: &[(K, V)],
-) {
-    let map = granted(rt, VecMap::from_slice(alloc, pairs));
-    assert_list(rt, map.as_slice(), pairs);
+) -> Result<String, Fail> {
+    let map = VecMap::from_slice(alloc, pairs)?;
+    Ok(format!(in alloc; "{:?}", map.as_slice())?)
 }
 
 #[test]
-fn from_slice_keeps_distinct_pairs_of_every_kind(rt: HostRuntime) {
+fn from_slice_keeps_distinct_pairs_of_every_kind(rt: HostRuntime) -> Result<(), Fail> {
     let alloc = rt.alloc();
-    let foo = granted(&rt, String::from_str(alloc, "foo"));
-    let bar = granted(&rt, String::from_str(alloc, "bar"));
-    assert_kept(&rt, alloc, &[(1i64, foo), (2, bar)]);
-    let foo = granted(&rt, String::from_str(alloc, "foo"));
-    let bar = granted(&rt, String::from_str(alloc, "bar"));
-    assert_kept(&rt, alloc, &[(foo, 1i64), (bar, 2)]);
-    assert_kept(&rt, alloc, &[(true, 1i64), (false, 2)]);
-    assert_kept(&rt, alloc, &[(1i64, true), (2, false)]);
+    let [a, b, c, d] = ["foo", "bar", "foo", "bar"].map(|text| text.to_string(alloc));
+    let (values, keys) = ([(1i64, a?), (2, b?)], [(c?, 1i64), (d?, 2)]);
+    assert_prints(
+        &rt,
+        print_map(alloc, &values),
+        r#"[(1, "foo"), (2, "bar")]"#,
+    )?;
+    assert_prints(&rt, print_map(alloc, &keys), r#"[("foo", 1), ("bar", 2)]"#)?;
+    let (keys, values) = ([(true, 1i64), (false, 2)], [(1i64, true), (2, false)]);
+    assert_prints(&rt, print_map(alloc, &keys), "[(true, 1), (false, 2)]")?;
+    assert_prints(&rt, print_map(alloc, &values), "[(1, true), (2, false)]")
+}
+
+/// Writes 9 as the value of a text, if it is present, and returns the value before.
+fn replace(map: &mut VecMap<String, usize>, text: &str) -> Option<usize> {
+    if !map.contains_key(text) {
+        return None;
+    }
+    let old = map[text];
+    map[text] = 9;
+    Some(old)
+}
+
+/// Prints where a text is in a map and in a set of three texts, one of them empty, its value, and the map with 9 there.
+fn print_found(alloc: Global, text: &str) -> Result<String, Fail> {
+    let (mut map, mut set) = (VecMap::new(alloc), VecSet::new(alloc));
+    for text in ["ab", "", "b"] {
+        map.insert(text.to_string(alloc)?, text.len())?;
+        set.insert(text.to_string(alloc)?)?;
+    }
+    let found = (
+        find_str(map.as_slice(), text),
+        find_item_str(set.as_slice(), text),
+    );
+    let old = replace(&mut map, text);
+    Ok(format!(in alloc; "{found:?} {old:?} {map:?}")?)
 }
 
 #[test]
-fn set_values_writes_each_value_and_keeps_the_rest(rt: HostRuntime) {
-    let mut map = granted(&rt, VecMap::from_slice(rt.alloc(), &[('b', 1), ('a', 2)]));
-    let capacity = map.capacity();
-    map.set_values(7);
-    assert_list(&rt, map.as_slice(), &[('b', 7), ('a', 7)]);
-    assert_is(&rt, map.capacity(), capacity);
-    map.clear();
-    map.set_values(8);
-    assert_list(&rt, map.as_slice(), &[]);
+fn texts_are_found_and_written_in_brackets_by_their_bytes(rt: HostRuntime) -> Result<(), Fail> {
+    for (text, expected) in [
+        (
+            "ab",
+            r#"(Some(0), Some(0)) Some(2) {"ab": 9, "": 0, "b": 1}"#,
+        ),
+        ("", r#"(Some(1), Some(1)) Some(0) {"ab": 2, "": 9, "b": 1}"#),
+        (
+            "b",
+            r#"(Some(2), Some(2)) Some(1) {"ab": 2, "": 0, "b": 9}"#,
+        ),
+        ("a", r#"(None, None) None {"ab": 2, "": 0, "b": 1}"#),
+    ] {
+        assert_prints(&rt, print_found(rt.alloc(), text), expected)?;
+    }
+    Ok(())
 }
 
 // A value that does not print.
 #[derive(Drop)]
-struct Silent {
-    number: u32,
-}
+struct Silent(u32);
 
 #[test]
 fn a_value_that_does_not_print_is_inserted_by_a_question_mark(rt: HostRuntime) -> Result<(), Fail> {
     let mut map = VecMap::new(rt.alloc());
-    map.insert(1, Silent { number: 7 })?;
-    assert_is(&rt, map.get(&1).map(|value| value.number), Some(7));
+    map.insert(1, Silent(7))?;
+    assert_eq!(rt; map.get(&1).map(|value| value.0), Some(7));
     Ok(())
 }
 
-// Compiles only if threads may share the value, and if it may be moved to another thread.
-fn is_send_and_sync<T: Send + Sync + Drop>(_value: T) {}
+fn with_commas_at_the_end(alloc: Global) -> Result<String, Fail> {
+    let map = vecmap!(alloc; "a" => 1, "b" => 2, "a" => 3,);
+    let set = vecset!(alloc; 2, 1, 2,);
+    Ok(format!(in alloc; "{map:?} {set:?}")?)
+}
 
-#[test]
-fn threads_may_share_maps_and_sets(rt: HostRuntime) {
-    is_send_and_sync(VecMap::<String, u32>::new(rt.alloc()));
-    is_send_and_sync(VecSet::<String>::new(rt.alloc()));
+fn capacities_of_nothing(alloc: Global) -> Result<String, Fail> {
+    let map: VecMap<u32, char> = vecmap!(alloc;);
+    let set: VecSet<char> = vecset!(alloc;);
+    Ok(format!(in alloc; "{} {}", map.capacity(), set.capacity())?)
+}
+
+/// Each key and each value is the number of calls so far.
+fn numbered_calls(alloc: Global) -> Result<String, Fail> {
+    let calls = Cell::new(0u32);
+    let next = || {
+        calls.set(calls.get().wrapping_add(1));
+        calls.get()
+    };
+    let map = vecmap!(alloc; next() => next(), next() => next());
+    Ok(format!(in alloc; "{map:?}")?)
 }
 
 #[test]
-fn a_refusal_prints_the_same_whatever_was_refused(rt: HostRuntime) {
-    let refused = Refused {
-        given: Silent { number: 7 },
-    };
-    let printed = granted(&rt, format!(in rt.alloc(); "{refused}, {refused:?}"));
-    assert_is(
+fn macros_insert_in_order_and_evaluate_a_key_before_its_value(rt: HostRuntime) -> Result<(), Fail> {
+    let alloc = rt.alloc();
+    assert_prints(
         &rt,
-        printed.as_str(),
-        "memory allocation failed, Refused { .. }",
-    );
-    assert_is(&rt, refused.given.number, 7);
+        with_commas_at_the_end(alloc),
+        r#"{"a": 3, "b": 2} {2, 1}"#,
+    )?;
+    assert_prints(&rt, capacities_of_nothing(alloc), "0 0")?;
+    assert_prints(&rt, numbered_calls(alloc), "{1: 2, 3: 4}")
 }
