@@ -8,11 +8,6 @@ pub(crate) fn assert_is<T: PartialEq + Debug + Drop>(rt: &impl Abort, value: T, 
     assert_eq!(*rt; value, expected);
 }
 
-/// Asserts that a list has exactly these items, in this order.
-pub(crate) fn assert_list<T: PartialEq + Debug>(rt: &impl Abort, list: &[T], expected: &[T]) {
-    assert_eq!(*rt; list, expected);
-}
-
 /// Asserts that memory sufficed for a call, and returns its value.
 pub(crate) fn granted<T, E: Drop>(rt: &impl Abort, outcome: Result<T, E>) -> T {
     match outcome {
@@ -28,11 +23,6 @@ pub(crate) fn assert_gives<T: PartialEq + Debug + Drop, E: Drop>(
     expected: T,
 ) {
     assert_is(rt, granted(rt, outcome), expected)
-}
-
-/// Asserts that a call ran out of memory.
-pub(crate) fn assert_refused<T: Drop, E: Drop>(rt: &impl Abort, outcome: Result<T, E>) {
-    assert!(*rt; outcome.is_err());
 }
 
 /// Asserts that a function returned this text.

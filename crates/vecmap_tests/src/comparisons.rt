@@ -3,14 +3,18 @@
 ghost use Rattle.std.specs.Prelude.{◌≡◌, nat_eq};
 ghost use Rattle.std.specs.Cmp.{nat_eq_equiv, partial_equiv_from_equiv};
 
-use crate::checks::{assert_gives, assert_is, assert_list, granted};
+use crate::checks::{assert_gives, assert_is, assert_prints};
 use std::alloc::{AllocError, Global};
 use std::cell::Cell;
 use std::cmp::Ordering;
 use std::marker::Brand;
 use std::sync::ledger::{Blank, Ledger};
+use std::test::Fail;
 use vecmap::{Counter, VecMap, VecSet};
-use vecmap_base::{find_equivalent_counted, find_item_equivalent_counted, partition_point};
+use vecmap_base::{
+    contains_equivalent_counted, find_equivalent_counted, find_item_equivalent_counted,
+    partition_point,
+};
 
 /// A number, in an item of 16 bytes. A comparison of two counts for the first.
 #[derive(Clone, Copy)]
@@ -50,14 +54,14 @@ fn numbers(alloc: Global, comparisons: &Cell<u32>) -> Result<Vec<Counted<'_>>, A
     Ok(numbers)
 }
 
-/// Returns how often the two searches that count compare a query, with keys and with elements.
+/// Returns how often the searches of a slice that count compare a query: one of pairs, and two of items.
 fn comparisons_with<K: Eq + Copy, L: Ledger>(
     alloc: Global,
     items: &[K],
     query: &K,
     comparisons: &Cell<u32>,
     counter: &mut Counter<L>,
-) -> Result<(u32, u32), AllocError> {
+) -> Result<[u32; 3], AllocError> {
     let mut pairs = Vec::new(alloc);
     for item in items {
         pairs.push((*item, ()))?;
@@ -66,14 +70,13 @@ fn comparisons_with<K: Eq + Copy, L: Ledger>(
     let _index = find_equivalent_counted(&pairs, query, counter);
     let of_pairs = comparisons.replace(0);
     let _index = find_item_equivalent_counted(items, query, counter);
-    Ok((of_pairs, comparisons.get()))
+    let of_items = comparisons.replace(0);
+    let _found = contains_equivalent_counted(items, query, counter);
+    Ok([of_pairs, of_items, comparisons.get()])
 }
 
-/// Returns how often these searches compare 0, 20, 40 and 41 with the numbers up to 40, and with references to them.
-fn comparisons_of_searches<L: Ledger>(
-    alloc: Global,
-    blank: Blank,
-) -> Result<Vec<[(u32, u32); 2]>, AllocError>
+/// Prints how often they compare a number with the numbers up to 40, and with references to them.
+fn print_comparisons<L: Ledger>(alloc: Global, blank: Blank, number: u32) -> Result<String, Fail>
     requires same_name { blank.name ≡ L.name }
     requires same_parts { blank.parts ≡ L.parts }
     requires one_part { blank.parts ≡ 1 }
@@ -85,36 +88,28 @@ fn comparisons_of_searches<L: Ledger>(
     for number in &numbers {
         references.push(number)?;
     }
-    let mut made = Vec::new(alloc);
-    for number in [0, 20, 40, 41] {
-        let query = &Counted {
-            number,
-            comparisons,
-        };
-        let large = comparisons_with(alloc, &numbers, query, comparisons, &mut counter)?;
-        let small = comparisons_with(alloc, &references, &query, comparisons, &mut counter)?;
-        made.push([large, small])?;
-    }
-    Ok(made)
+    let query = &Counted {
+        number,
+        comparisons,
+    };
+    let large = comparisons_with(alloc, &numbers, query, comparisons, &mut counter)?;
+    let small = comparisons_with(alloc, &references, &query, comparisons, &mut counter)?;
+    Ok(format!(in alloc; "{large:?} {small:?}")?)
 }
 
 // Among elements of 8 bytes, up to seven comparisons come after the match.
 #[test]
-fn searches_that_count_compare_no_further_than_the_match(rt: HostRuntime) {
-    let made = granted(
-        &rt,
-        comparisons_of_searches::<Brand>(rt.alloc(), Blank::new(1)),
-    );
-    assert_list(
-        &rt,
-        &made,
-        &[
-            [(1, 1), (1, 8)],
-            [(21, 21), (21, 24)],
-            [(41, 41), (41, 41)],
-            [(41, 41), (41, 41)],
-        ],
-    );
+fn searches_that_count_compare_no_further_than_the_match(rt: HostRuntime) -> Result<(), Fail> {
+    for (number, expected) in [
+        (0, "[1, 1, 1] [1, 8, 8]"),
+        (20, "[21, 21, 21] [21, 24, 24]"),
+        (40, "[41, 41, 41] [41, 41, 41]"),
+        (41, "[41, 41, 41] [41, 41, 41]"),
+    ] {
+        let printed = print_comparisons::<Brand>(rt.alloc(), Blank::new(1), number);
+        assert_prints(&rt, printed, expected)?;
+    }
+    Ok(())
 }
 
 /// Extends the set of the numbers up to 40 by a copy of 41, by the inherent call or by the trait. Returns the number of

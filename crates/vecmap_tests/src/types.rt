@@ -1,7 +1,7 @@
 //! Keys, values and elements of other types than those of a test case: texts, truth values, and values that do not print.
 //! And the macros, which a test case can only give three pairs or elements.
 use crate::checks::assert_prints;
-use std::alloc::{AllocError, Global};
+use std::alloc::Global;
 use std::cell::Cell;
 use std::fmt::Debug;
 use std::test::Fail;
