@@ -32,10 +32,11 @@ NAME = re.compile(r"[A-Za-z_][\w']*")
 IMPL = re.compile(r"impl(?:<(?:->|[^<>]|<(?:->|[^<>]|<[^<>]*>)*>)*>)? (?:(.*) for )?(.*?)(?: where.*)?")
 # A definition: its line, its name, the lines of its comment, and its text, which begins with its module if it has one.
 Definition = collections.namedtuple("Definition", "line name comment text")
-# A block of code: the line that opens it, the words there, and its lines.
-Block = collections.namedtuple("Block", "line mark lines")
-# The first line of a block that is a file of a user's repository: a comment with its path. `.ci/user` proves these.
-USERS_FILE = re.compile(r"(?://|--|#) (crates(?:/\S+)?\.\w+)")
+# A block of code: the line that opens it, the words there, its lines, and those of the comment right above it.
+Block = collections.namedtuple("Block", "line mark lines above")
+BLOCK = re.compile(r"^(?:<!-- ((?:(?!-->)(?:.|\n))*?)\s*-->\n)?```(.*)\n((?:.*\n)*?)```$", re.MULTILINE)
+# The first line of a block that is a file of a user's repository, or of the comment above it, has the path of the file.
+USERS_FILE = re.compile(r"(?:(?://|--|#) )?(crates[./]\S+)")
 # The script of the test cases.
 SCRIPT = "crates/vecmap_script/stdin"
 # A heading of a script: its part, its text, the texts of the lines `# WORD:` below it, by the word, and its rows.
@@ -102,6 +103,11 @@ def files(*patterns):
     """Returns the files that some patterns name, in order, without what a check has made."""
     found = (path for pattern in patterns for path in sorted(glob.glob(pattern, recursive=True)))
     return [path for path in found if "/out/" not in f"/{path}"]
+
+
+def pages():
+    """Returns the pages."""
+    return files("*.md", "bench/*.md", "crates/vecmap/*.md", "docs/*.md")
 
 
 def sources(*crates):
@@ -189,19 +195,15 @@ def uncommented():
 
 def blocks(path):
     """Yields the blocks of code of a page, or of the doc comments of a source."""
-    block = None
-    for number, line in enumerate(read(path).splitlines(), 1):
-        line = re.sub(r"^ *//[/!] ?", "", line) if path.endswith(".rt") else line
-        if line.startswith("```"):
-            yield from [block] if block else []
-            block = None if block else Block(number, line[3:], [])
-        elif block:
-            block.lines.append(line)
+    text = re.sub(r"^ *//[/!] ?", "", read(path), flags=re.MULTILINE) if path.endswith(".rt") else read(path)
+    for found in BLOCK.finditer(text):
+        line = text.count("\n", 0, found.start(2)) + 1
+        yield Block(line, found[2], found[3].splitlines(), (found[1] or "").splitlines())
 
 
 def users_file(block):
     """Returns the path of a block that is a file of a user's repository, or nothing."""
-    found = USERS_FILE.fullmatch(block.lines[0]) if block.lines else None
+    found = USERS_FILE.fullmatch([*block.above, *block.lines, ""][0])
     return found[1] if found else ""
 
 

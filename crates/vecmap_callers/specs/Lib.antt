@@ -2,4 +2,5 @@ pub mod HeaderLists
 pub mod Interner
 pub mod Options
 pub mod Scopes
+pub mod Trees
 pub mod Updating

@@ -32,5 +32,6 @@ pub mod removal;
 pub mod scopes;
 pub mod search;
 pub mod traits;
+pub mod trees;
 pub mod updating;
 pub mod writing;

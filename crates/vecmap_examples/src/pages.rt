@@ -1,4 +1,0 @@
-//! The examples of the pages for users.
-pub mod calling;
-pub mod porting;
-pub mod proving;

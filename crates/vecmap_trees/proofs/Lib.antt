@@ -1,2 +1,0 @@
-pub mod MergeLemmas
-pub mod PathLemmas
