@@ -1,13 +1,9 @@
 -- What the values of a list of pairs become, one after another.
-use Rattle.std.specs.Prelude.{◌≡◌, ℕ, List, ◌++◌, String, Vec, map, string_bytes}
+use Rattle.std.specs.Prelude.{◌≡◌, List, ◌++◌, Vec, map}
 
 -- The items of each vector, in order.
 abbrev pub lists_of : {K T A : Type 0} → List (K × Vec T A) → List (List T)
 lists_of l = map (λ pair. pair.1.items) l
-
--- The bytes of each text, in order.
-abbrev pub texts_of : {K A : Type 0} → List (K × String A) → List (List ℕ)
-texts_of l = map (λ pair. string_bytes pair.1) l
 
 -- `new` is `old` with `h` of the first items, up to some item.
 abbrev pub IsMappedInPart : {X : Type 0} → (X → X) → List X → List X → Type 0

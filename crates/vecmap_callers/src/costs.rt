@@ -1,32 +1,12 @@
 //! Callers that bound how many comparisons they make. The counter takes no bytes: it is for their contracts alone.
-ghost use Rattle.std.specs.Prelude.{◌≡◌, ◌+◌, ◌*◌, ◌≤◌, [], IfOk, OnOk, is_some, length, nat_eq, take};
-ghost use Rattle.std.specs.List.{count_by};
+ghost use Rattle.std.specs.Prelude.{◌≡◌, ◌+◌, ◌≤◌, [], IfOk, OnOk, length, nat_eq};
 ghost use Rattle.std.specs.Map.{keys_of};
 ghost use Rattle.vecmap.specs.Comparisons.{comparisons, cost};
-ghost use Rattle.vecmap.specs.Pairs.{index_of, puts};
+ghost use Rattle.vecmap.specs.Pairs.{puts};
 
 use std::alloc::{AllocError, Global};
 use std::sync::ledger::Ledger;
 use vecmap::{Counter, VecMap};
-
-/// Returns how many of the keys the map has. For n keys and m pairs it makes at most n m comparisons.
-pub fn count_present<L: Ledger>(
-    map: &VecMap<u32, u32>,
-    keys: &[u32],
-    counter: &mut Counter<L>,
-) -> usize
-    ensures count { result ≡ count_by (λ key. is_some (index_of nat_eq map.now.entries key))
-        keys.now }
-    ensures at_most { counter.new ≤ counter.old + length keys.now * length map.now.entries }
-{
-    let mut found = 0;
-    for key in keys {
-        if map.contains_key_counted(key, counter) {
-            found += 1;
-        }
-    }
-    found
-}
 
 /// Creates a map of n pairs, by one insertion for each. It makes at most n(n-1)/2 comparisons.
 pub fn filled<L: Ledger>(

@@ -1,25 +1,19 @@
-//! Callers of documents and names. Each needs something that a clause of [`Document`] or [`Name`] says, so that none of it
-//! can be lost unseen.
+//! Callers of documents: what their contracts say is enough to prove what becomes of a document after several calls.
 //!
 //! ```
 //! let name = |text: &str| -> Result<Name, AllocError> { Ok(Name::new(text.to_string(alloc)?)) };
 //! let mut page = single(alloc, name("Font")?, name("Size")?, "12".to_string(alloc)?)?;
 //! set_text(alloc, &mut page, "Page", "Width", "5".to_string(alloc)?)?;
-//! is_new(&mut page, name("page")?, name("Height")?, "9".to_string(alloc)?)? // true
 //! replace(&mut page, name("FONT")?, name("SIZE")?, "14pt".to_string(alloc)?).as_deref() // Some("12")
 //! length_of_text(&page, &name("font")?, &name("size")?) // Some(4)
 //! let mut changes = blank(alloc);
-//! set_or_return(&mut changes, name("Link")?, name("Color")?, "red".to_string(alloc)?).is_none() // true
+//! set_text(alloc, &mut changes, "Link", "Color", "red".to_string(alloc)?)?;
 //! finds_the_same(&page, &changes) // false
-//! is_same_as_itself(&page) // true
 //! merge_twice(&mut page, &mut changes)?;
 //! merge_both(&mut page, &mut blank(alloc), &mut blank(alloc))?;
-//! count_sections(&page) // 3
-//! are_alike(&name("Font")?, &name("FONT")?) // true
-//! length_of_name(&name("Font")?) // 4
+//! length_of_text(&page, &name("link")?, &name("color")?) // Some(3)
 //! ```
-ghost use Rattle.std.specs.Prelude.{◌≡◌, ◌∷◌, ◌↔◌, ℕ, IfOk, IfSome, IsSome, IsTrue, List, None, OnErr, OnOk, [], length, option_map, string_bytes};
-ghost use Rattle.std.specs.Str.{str_eq_ignore_ascii_case};
+ghost use Rattle.std.specs.Prelude.{◌≡◌, ◌∷◌, ℕ, IfOk, IsSome, IsTrue, List, None, OnErr, OnOk, [], length, option_map, string_bytes};
 ghost use Rattle.attr_doc.specs.Documents.{IsDocument, merge_of, text_of, with_text};
 
 pub use attr_doc::{Document, Name};
@@ -70,18 +64,6 @@ pub fn set_text(
     Ok(())
 }
 
-/// Sets a text, and returns whether there was none before.
-pub fn is_new(
-    page: &mut Document,
-    section: Name,
-    name: Name,
-    text: String,
-) -> Result<bool, AllocError>
-    ensures { IfOk result (λ new. IsTrue new ↔ (text_of page.old section name ≡ None)) }
-{
-    Ok(page.set(section, name, text)?.is_none())
-}
-
 /// Replaces an existing text, which always succeeds.
 ///
 /// # Preconditions
@@ -94,21 +76,6 @@ pub fn replace(page: &mut Document, section: Name, name: Name, text: String) -> 
     ensures old { option_map string_bytes result ≡ text_of page.old section name }
 {
     page.set(section, name, text).unwrap()
-}
-
-/// Sets a text. If an allocation fails, returns the names and the text.
-pub fn set_or_return(
-    page: &mut Document,
-    section: Name,
-    name: Name,
-    text: String,
-) -> Option<(Name, Name, String)>
-    ensures { IfSome result (λ returned. returned ≡ (section, name, text)) }
-{
-    match page.set(section, name, text) {
-        Ok(_) => None,
-        Err(refused) => Some(refused.given),
-    }
 }
 
 /// Returns the number of bytes of a text.
@@ -156,33 +123,4 @@ pub fn finds_the_same(page: &Document, other: &Document) -> bool
         → text_of page.now section name ≡ text_of other.now section name }
 {
     page.same(other)
-}
-
-/// Compares a document with itself, which always returns `true`.
-pub fn is_same_as_itself(page: &Document) -> bool
-    ensures { IsTrue result }
-{
-    page.same(page)
-}
-
-/// Returns the number of sections.
-pub fn count_sections(page: &Document) -> usize
-    ensures count { result ≡ length page.now }
-    ensures document { IsDocument page.now }
-{
-    page.sections().len()
-}
-
-/// Returns whether two names differ in no more than the case of letters.
-pub fn are_alike(name: &Name, other: &Name) -> bool
-    ensures { result ≡ str_eq_ignore_ascii_case name.now other.now }
-{
-    *name == *other
-}
-
-/// Returns the number of bytes of a name.
-pub fn length_of_name(name: &Name) -> usize
-    ensures { result ≡ length name.now }
-{
-    name.text().len()
 }

@@ -3,41 +3,28 @@
 //! ```
 //! let mut map = vecmap!(alloc; 1u64 => 3u32, 2 => 6, 4 => 6);
 //! keys_reversed(alloc, &map)?.as_slice() // [4, 2, 1]
+//! greatest(&map) // 6
 //! pull_keys(&map);
-//! pairs_taken(alloc, map.clone()?)?.as_slice() // [(1, 3), (2, 6), (4, 6)]
-//! values_taken(alloc, map.clone()?)?.as_slice() // [6, 6, 3]
-//! elements_reversed(alloc, &vecset!(alloc; 1, 2))?.as_slice() // [2, 1]
-//! count_of_value(&map, 6) // 2
 //! add_one(&mut map);
-//! first_value(&mut map) // Some(4)
-//! map.as_slice() // [(1, 4), (2, 7), (4, 7)]
+//! both_ends(&mut map) // (Some(4), Some(7))
+//! sum_of_values(map.clone()?) // Some(18)
+//! values_taken(alloc, map)?.as_slice() // [7, 7, 4]
 //! ```
-ghost use Rattle.std.specs.Prelude.{◌≡◌, ◌<◌, ◌∷◌, ℕ, IfOk, [], count_by, length, nat_eq, reverse, slice_get};
 ghost use Rattle.std.specs.List.{All};
 ghost use Rattle.std.specs.Map.{keys_of, values_of};
+ghost use Rattle.std.specs.Prelude.{◌≡◌, ◌<◌, ◌≤◌, ◌^◌, ◌∷◌, ℕ, IfOk, IfSome, List, None, Some, [], length, nat_eq, option_map, reverse, sum};
+ghost use Rattle.vecmap.specs.Iterators.{deref_mut};
+ghost use Rattle.vecmap.specs.Pairs.{lookup};
+ghost use Rattle.vecmap_laws.specs.Pulls.{Pulls, back, front};
 
 use std::alloc::{AllocError, Global};
-use vecmap::{VecMap, VecSet};
-
-/// Returns the number of pairs that have this value.
-pub fn count_of_value(map: &VecMap<u64, u32>, value: u32) -> usize
-    ensures { result ≡ count_by (λ v. nat_eq v value) (values_of map.now.entries) }
-{
-    map.values().filter(|stored| **stored == value).count()
-}
+use vecmap::VecMap;
 
 /// Returns the keys, in reverse order.
 pub fn keys_reversed(alloc: Global, map: &VecMap<u64, u32>) -> Result<Vec<u64>, AllocError>
     ensures { IfOk result (λ keys. keys.items ≡ reverse (keys_of map.now.entries)) }
 {
     map.keys().rev().copied().collect(alloc)
-}
-
-/// Returns the pairs, by value.
-pub fn pairs_taken(alloc: Global, map: VecMap<u64, u32>) -> Result<Vec<(u64, u32)>, AllocError>
-    ensures { IfOk result (λ pairs. pairs.items ≡ map.entries) }
-{
-    map.into_iter().collect(alloc)
 }
 
 /// Returns the values, by value, in reverse order.
@@ -66,6 +53,30 @@ pub fn pull_keys(map: &VecMap<u64, u32>)
     prove!(back.is_none());
 }
 
+/// Returns a number that no value exceeds.
+pub fn greatest(scores: &VecMap<u64, u32>) -> u32
+    ensures { (player score : ℕ) → lookup nat_eq scores.now.entries player ≡ Some score
+        → score ≤ result }
+{
+    let mut most = 0;
+    for (_, score) in scores.iter() {
+        most = most.max(*score);
+    }
+    most
+}
+
+/// Returns the sum of the values, if it is below 2^32. What `?` leaves of the map is dropped.
+pub fn sum_of_values(map: VecMap<u64, u32>) -> Option<u32>
+    ensures value { IfSome result (λ all. all ≡ sum (values_of map.entries)) }
+    ensures none { result ≡ None → 2 ^ 32 ≤ sum (values_of map.entries) }
+{
+    let mut all = 0u32;
+    for (_key, value) in map {
+        all = all.checked_add(value)?;
+    }
+    Some(all)
+}
+
 /// Adds one to each value. The loop yields the value that the map held when the loop began.
 pub fn add_one(map: &mut VecMap<u64, u32>)
     requires { All (λ v. v < 100) (values_of map.old.entries) }
@@ -77,19 +88,25 @@ pub fn add_one(map: &mut VecMap<u64, u32>)
     }
 }
 
-/// Returns the first value, read through a mutable reference.
-pub fn first_value(map: &mut VecMap<u64, u32>) -> Option<u32>
-    ensures value { result ≡ slice_get (values_of map.old.entries) 0 }
+// The value behind a mutable reference, if there is one.
+fn read(value: Option<&mut u32>) -> Option<u32>
+    ensures { result ≡ option_map deref_mut value.entry }
+{
+    match value {
+        Some(value) => Some(*value),
+        None => None,
+    }
+}
+
+/// Returns the first value, and the last of the others, by one call of `next` and one of `next_back`.
+pub fn both_ends(map: &mut VecMap<u64, u32>) -> (Option<u32>, Option<u32>)
+    ensures pulls { (rest : List ℕ) × Pulls (values_of map.old.entries)
+        (front ∷ back ∷ []) (result.0 ∷ result.1 ∷ []) rest }
     ensures len { length map.new.entries ≡ length map.old.entries }
     ensures capacity { map.new.capacity ≡ map.old.capacity }
 {
-    let (_, value) = map.iter_mut().next()?;
-    Some(*value)
-}
-
-/// Returns the elements, in reverse order.
-pub fn elements_reversed(alloc: Global, set: &VecSet<u32>) -> Result<Vec<u32>, AllocError>
-    ensures { IfOk result (λ elements. elements.items ≡ reverse set.now.elements) }
-{
-    set.iter().rev().copied().collect(alloc)
+    let mut values = map.values_mut();
+    let first = read(values.next());
+    let last = read(values.next_back());
+    (first, last)
 }

@@ -2,11 +2,8 @@
 //! would be.
 #![tactic(auto)]
 
-pub mod bulk;
-pub mod by_value;
 pub mod costs;
 pub mod documents;
-pub mod entry;
 pub mod equivalent;
 pub mod filling;
 pub mod first_changes;
@@ -21,17 +18,12 @@ pub mod first_texts;
 pub mod header_lists;
 pub mod interner;
 pub mod iteration;
-pub mod laws;
-pub mod lazy;
-pub mod lending;
 pub mod operators;
 pub mod options;
 pub mod order;
 pub mod partition;
 pub mod removal;
 pub mod scopes;
-pub mod search;
 pub mod traits;
 pub mod trees;
 pub mod updating;
-pub mod writing;

@@ -1,56 +1,55 @@
-//! Callers of the operators on sets.
+//! Callers of the operators on sets, and of the lazy iterators over two sets.
 //!
 //! ```
-//! let (a, b, c) = (vecset!(alloc; 1u32, 2, 3), vecset!(alloc; 2u32), vecset!(alloc; 3u32, 2));
-//! shared(&a, &c)?.as_slice() // [2, 3]
-//! without_both(&a, &b, &c)?.as_slice() // [1]
-//! apart_within(&a, &b, &c)?.as_slice() // [3]
+//! let (a, b) = (vecset!(alloc; 1u32, 2, 3), vecset!(alloc; 3u32, 4));
+//! (sum_of_union(&a, &b), share_nothing(&a, &b)) // (10, false)
+//! union_in_reverse(alloc, &a, &b)?.as_slice() // [4, 3, 2, 1]
 //! let (x, y) = (vecmap!(alloc; 1u32 => 'a', 2 => 'b'), vecmap!(alloc; 2u32 => 'c', 3 => 'd'));
 //! keys_of_one(alloc, &x, &y)?.as_slice() // [1, 3]
 //! ```
 ghost use Rattle.std.specs.Map.{keys_of};
-ghost use Rattle.std.specs.Prelude.{◌≡◌, ◌&&◌, ◌||◌, IfOk, [], nat_eq, not};
+ghost use Rattle.std.specs.Prelude.{◌≡◌, ◌<◌, ◌^◌, ◌↔◌, ◌&&◌, ◌||◌, IfOk, IsTrue, [], nat_eq, not, reverse, sum};
 ghost use Rattle.std.specs.Set.{is_member};
-ghost use Rattle.vecmap.specs.Items.{adds, both, only};
-ghost use Rattle.vecmap.specs.Operators.{ClonesStaySame, MakesClones, symmetric_difference_of, union_of};
+ghost use Rattle.vecmap.specs.Items.{adds, both};
+ghost use Rattle.vecmap.specs.Operators.{symmetric_difference_of};
+ghost use Rattle.vecmap_laws.specs.Algebra.{lazy_union};
 
 use std::alloc::{AllocError, Global};
 use vecmap::{VecMap, VecSet};
-use vecmap_laws::sets::{clones_have_the_same_members, eq_is_an_equivalence};
+use vecmap_laws::sets::{
+    clones_have_the_same_members, disjoint_sets_have_no_intersection, eq_is_an_equivalence,
+};
 
-/// Returns clones of the elements that are in both sets, of any type whose clones equal their originals.
-pub fn shared<T: Eq + Clone>(a: &VecSet<T>, b: &VecSet<T>) -> Result<VecSet<T>, AllocError>
-    requires { ClonesStaySame T.eq T.is_clone both a.now b.now }
-    ensures { MakesClones T.eq T.is_clone both a.now b.now result }
+/// Returns the sum of the elements of the union, by a loop.
+pub fn sum_of_union(a: &VecSet<u32>, b: &VecSet<u32>) -> u32
+    requires { sum (lazy_union nat_eq a.now.elements b.now.elements) < 2 ^ 32 }
+    ensures { result ≡ sum (lazy_union nat_eq a.now.elements b.now.elements) }
 {
-    a & b
+    let mut total = 0;
+    for item in a.union(b) {
+        total += *item;
+    }
+    total
 }
 
-/// Returns the elements of `a` that are neither in `b` nor in `c`.
-pub fn without_both(
-    a: &VecSet<u32>,
-    b: &VecSet<u32>,
-    c: &VecSet<u32>,
-) -> Result<VecSet<u32>, AllocError>
-    ensures { IfOk result (λ set. set.elements
-        ≡ only nat_eq a.now.elements (union_of nat_eq b.now.elements c.now.elements)) }
+/// Returns the elements of the union in reverse order, as a vector.
+pub fn union_in_reverse<T: Eq + Copy>(
+    alloc: Global,
+    a: &VecSet<T>,
+    b: &VecSet<T>,
+) -> Result<Vec<T>, AllocError>
+    ensures { IfOk result (λ items. items.items
+        ≡ reverse (lazy_union T.eq a.now.elements b.now.elements)) }
 {
-    let unwanted = (b | c)?;
-    a - &unwanted
+    a.union(b).rev().copied().collect(alloc)
 }
 
-/// Returns the elements of `c` that are in exactly one of `a` and `b`.
-pub fn apart_within(
-    a: &VecSet<u32>,
-    b: &VecSet<u32>,
-    c: &VecSet<u32>,
-) -> Result<VecSet<u32>, AllocError>
-    ensures { IfOk result (λ set. set.elements
-        ≡ symmetric_difference_of nat_eq (both nat_eq a.now.elements c.now.elements)
-        (both nat_eq b.now.elements c.now.elements)) }
+/// Returns `true` if the sets have no common element, by one call of `next`.
+pub fn share_nothing<T: Eq>(a: &VecSet<T>, b: &VecSet<T>) -> bool
+    ensures { IsTrue result ↔ (both T.eq a.now.elements b.now.elements ≡ []) }
 {
-    let (left, right) = ((a & c)?, (b & c)?);
-    &left ^ &right
+    disjoint_sets_have_no_intersection::<T>();
+    a.intersection(b).next().is_none()
 }
 
 /// Returns the keys that are in exactly one of two maps: first those of `a`, and then those of `b`.

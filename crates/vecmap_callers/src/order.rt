@@ -1,62 +1,32 @@
-//! Callers of sorts, and of an exchange.
+//! Callers of sorts and searches whose closures read a value.
 //!
 //! ```
-//! let mut map = vecmap!(alloc; 'a' => 2, 'b' => 1, 'c' => 2);
-//! sort_by_value(&mut map)?;
-//! exchange_ends(&mut map);
-//! sort_by_cached_value(&mut map)?;
-//! map.as_slice() // [('b', 1), ('c', 2), ('a', 2)]
+//! let mut scores = vecmap!(alloc; 'a' => 1, 'b' => 3, 'c' => 3);
+//! rank(&mut scores)?;
+//! scores.as_slice() // [('b', 3), ('c', 3), ('a', 1)]
+//! search_by_rank(&vecmap!(alloc; 'a' => 0usize, 'b' => 2), &[5, 6, 7], 7) // Ok(1)
 //! ```
-ghost use Rattle.std.specs.Prelude.{◌-◌, ◌<◌, ◌≡◌, OnErr, OnOk, length, nat_eq, swap};
-ghost use Rattle.std.specs.List.{IsDistinct};
-ghost use Rattle.std.specs.List.Sorted.{IsNonDecreasing, IsPermutation, IsSortedByKey, IsStableByKey};
+ghost use Rattle.std.specs.List.{All};
+ghost use Rattle.std.specs.List.Sorted.{IsBinarySearchResult, IsSortedBy, IsStableBy};
 ghost use Rattle.std.specs.Ordering.{nat_cmp};
+ghost use Rattle.std.specs.Prelude.{◌<◌, OnOk, get_or, length, nat_lt};
 
 use std::alloc::AllocError;
-use vecmap::{VecMap, VecSet};
+use vecmap::VecMap;
 
-/// Sorts by the values; pairs with equal values keep their order.
-pub fn sort_by_value(map: &mut VecMap<char, u32>) -> Result<(), AllocError>
-    ensures sorted { OnOk result (IsSortedByKey (λ p. p.1) nat_cmp map.new.entries) }
-    ensures stable { IsStableByKey (λ p. p.1) nat_cmp map.old.entries map.new.entries }
-    ensures rearranged { IsPermutation map.old.entries map.new.entries }
-    ensures err { OnErr result (map.new ≡ map.old) }
-    ensures capacity { map.new.capacity ≡ map.old.capacity }
+/// Sorts the players by their scores, the greatest first. Players of equal scores keep their order.
+pub fn rank(scores: &mut VecMap<char, u32>) -> Result<(), AllocError>
+    ensures sorted { OnOk result (IsSortedBy (λ a b. nat_lt b.1 a.1) scores.new.entries) }
+    ensures stable { IsStableBy (λ a b. nat_lt b.1 a.1) scores.old.entries scores.new.entries }
 {
-    map.sort_by(|a, b| a.1.cmp(b.1))
+    scores.sort_by(|a, b| b.1.cmp(a.1))
 }
 
-/// Sorts by a sort key that is computed once for each pair; pairs with equal sort keys keep their order.
-pub fn sort_by_cached_value(map: &mut VecMap<char, u32>) -> Result<(), AllocError>
-    ensures sorted { OnOk result (IsSortedByKey (λ p. p.1) nat_cmp map.new.entries) }
-    ensures stable { IsStableByKey (λ p. p.1) nat_cmp map.old.entries map.new.entries }
-    ensures rearranged { IsPermutation map.old.entries map.new.entries }
-    ensures err { OnErr result (map.new ≡ map.old) }
-    ensures capacity { map.new.capacity ≡ map.old.capacity }
+/// Searches by the rank that a table holds for each value, as a sort key. Each value is an index of the table.
+pub fn search_by_rank(map: &VecMap<char, usize>, ranks: &[u32], rank: u32) -> Result<usize, usize>
+    requires within { All (λ p. p.1 < length ranks.now) map.now.entries }
+    ensures { IsBinarySearchResult
+        (λ p. nat_cmp (get_or ranks.now p.1 0) rank) map.now.entries result }
 {
-    map.sort_by_cached_key(|_, value| *value)
-}
-
-/// Sorts a set. It then ascends, has the same elements, and is still a set.
-pub fn sort_numbers(set: &mut VecSet<u32>)
-    ensures sorted { IsNonDecreasing set.new.elements }
-    ensures rearranged { IsPermutation set.old.elements set.new.elements }
-    ensures distinct { IsDistinct nat_eq set.new.elements }
-    ensures capacity { set.new.capacity ≡ set.old.capacity }
-{
-    set.sort_unstable();
-}
-
-/// Exchanges the first and the last pair of a map.
-///
-/// # Preconditions
-///
-/// The map is not empty.
-pub fn exchange_ends<K>(map: &mut VecMap<K, u32>)
-    requires { 0 < length map.old.entries }
-    ensures entries { map.new.entries ≡ swap map.old.entries 0 (length map.old.entries - 1) }
-    ensures capacity { map.new.capacity ≡ map.old.capacity }
-{
-    let last = map.len() - 1;
-    map.swap_indices(0, last);
+    map.binary_search_by_key(&rank, |_, place| ranks[*place])
 }

@@ -1,26 +1,21 @@
-//! Callers that use maps and sets through the traits `Clone` and `Extend`.
+//! Callers that collect, extend and clone, also through the traits.
 //!
 //! ```
-//! let map = all_pairs(alloc, vec![in alloc; Ok((1, 2)), Ok((1, 3))]?)?;
-//! map.as_slice() // [(1, 3)]
-//! let (mut below, rest) = parted(alloc, vec![in alloc; (1, 2), (5, 6)]?, 4)?;
-//! put_into_map(&mut below, vec![in alloc; (3, 4)]?)?;
-//! (below.as_slice(), rest.as_slice()) // ([(1, 2), (3, 4)], [(5, 6)])
-//! parted_set(alloc, vec![in alloc; 5, 1, 5]?, 4)?.1.as_slice() // [5]
+//! let mut map = all_pairs(alloc, vec![in alloc; Ok((1, 2)), Ok((1, 3))]?)?;
+//! put_map(&mut map, vecmap!(alloc; 2 => 30))?;
+//! put_into_map(&mut map, vec![in alloc; (3, 4)]?)?;
+//! map.as_slice() // [(1, 3), (2, 30), (3, 4)]
+//! thirds(alloc, &map)?.as_slice() // [(2, 10)]
 //! let shelf = Shelf { books: vecmap!(alloc; 1 => String::from_str(alloc, "a")?), marks: vecset!(alloc; 1) };
 //! copy_of_shelf(&shelf)? == shelf // true
-//! let rooms = vecmap!(alloc; 1 => vecmap!(alloc; 2 => 3));
-//! copy_of_rooms(&rooms)? == rooms // true
 //! ```
-ghost use Rattle.std.specs.Prelude.{◌≡◌, ◌<◌, ℕ, IfOk, List, Ok, OnErr, OnOk, Some, [], filter, length, nat_eq, nat_lt, not, slice_get, slice_index_or, string_bytes, take};
-ghost use Rattle.vecmap.specs.Items.{adds};
 ghost use Rattle.std.specs.List.{AllZip};
+ghost use Rattle.std.specs.Prelude.{◌≡◌, ◌<◌, ◌/◌, ℕ, IfOk, List, Ok, OnErr, OnOk, Some, [], filter, length, map, nat_eq, nat_lt, slice_get, slice_index_or, string_bytes, take};
 ghost use Rattle.vecmap.specs.Pairs.{puts};
 
 use std::alloc::{AllocError, Global};
 use vecmap::{VecMap, VecSet};
 use vecmap_laws::maps::collecting_one_more_is_extending;
-use vecmap_laws::sets::collecting_one_more_is_extending as collecting_one_more_element;
 
 /// Collects the pairs into a map, or returns the first error among them.
 pub fn all_pairs(
@@ -36,34 +31,23 @@ pub fn all_pairs(
     pairs.into_iter().try_collect(alloc)
 }
 
-/// Collects the pairs whose keys are below a limit into one map, and the others into another.
-pub fn parted(
-    alloc: Global,
-    pairs: Vec<(u32, u32)>,
-    limit: u32,
-) -> Result<(VecMap<u32, u32>, VecMap<u32, u32>), AllocError>
-    ensures below { IfOk result (λ parts. parts.0.entries
-        ≡ puts nat_eq [] (filter (λ p. nat_lt p.0 limit) pairs.items)) }
-    ensures not_below { IfOk result (λ parts. parts.1.entries
-        ≡ puts nat_eq [] (filter (λ p. not (nat_lt p.0 limit)) pairs.items)) }
+/// Returns a map with a third of each value above 9.
+pub fn thirds(alloc: Global, stock: &VecMap<u32, u32>) -> Result<VecMap<u32, u32>, AllocError>
+    ensures { IfOk result (λ made. made.entries ≡ puts nat_eq [] (map (λ pair. (pair.0, pair.1 / 3))
+        (filter (λ pair. nat_lt 9 pair.1) stock.now.entries))) }
 {
-    collecting_one_more_is_extending::<u32, u32>();
-    pairs.into_iter().partition(alloc, |pair| pair.0 < limit)
+    stock
+        .iter()
+        .filter(|pair| 9 < *pair.1)
+        .map(|pair| (*pair.0, *pair.1 / 3))
+        .collect(alloc)
 }
 
-/// Collects the elements below a limit into one set, and the others into another.
-pub fn parted_set(
-    alloc: Global,
-    items: Vec<u32>,
-    limit: u32,
-) -> Result<(VecSet<u32>, VecSet<u32>), AllocError>
-    ensures below { IfOk result (λ parts. parts.0.elements
-        ≡ adds nat_eq [] (filter (λ x. nat_lt x limit) items.items)) }
-    ensures not_below { IfOk result (λ parts. parts.1.elements
-        ≡ adds nat_eq [] (filter (λ x. not (nat_lt x limit)) items.items)) }
+/// Inserts the pairs of another map.
+pub fn put_map(stock: &mut VecMap<u32, u32>, more: VecMap<u32, u32>) -> Result<(), AllocError>
+    ensures { OnOk result (stock.new.entries ≡ puts nat_eq stock.old.entries more.entries) }
 {
-    collecting_one_more_element::<u32>();
-    items.into_iter().partition(alloc, |item| *item < limit)
+    stock.extend(more)
 }
 
 /// Extends any collection of pairs by these pairs.
@@ -107,16 +91,4 @@ pub fn copy_of_shelf(shelf: &Shelf) -> Result<Shelf, AllocError>
     ensures marks { IfOk result (λ copy. copy.marks.elements ≡ shelf.now.marks.elements) }
 {
     shelf.clone()
-}
-
-/// Returns a copy of a map of maps.
-pub fn copy_of_rooms(
-    rooms: &VecMap<u32, VecMap<u32, u32>>,
-) -> Result<VecMap<u32, VecMap<u32, u32>>, AllocError>
-    ensures { IfOk result (λ copy. AllZip
-        (λ p q. (q.0 ≡ p.0)
-        × AllZip (λ x y. (y.0 ≡ x.0)
-        × (y.1 ≡ x.1)) p.1.entries q.1.entries) rooms.now.entries copy.entries) }
-{
-    rooms.clone()
 }

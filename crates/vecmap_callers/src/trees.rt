@@ -64,7 +64,8 @@ impl Tree {
             return Ok(());
         };
         if let Some(tree) = self.below.get_mut(first) {
-            return tree.insert(alloc, rest, value);
+            tree.insert(alloc, rest, value)?;
+            return Ok(());
         }
         let mut tree = Tree::new(alloc);
         tree.insert(alloc, rest, value)?;

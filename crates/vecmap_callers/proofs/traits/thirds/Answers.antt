@@ -1,0 +1,14 @@
+use Rattle.std.specs.Prelude.{◌≡◌, ◌/◌, [], nat_eq, nat_lt}
+use Rattle.std.proofs.Common.{rules, tests}
+use Rattle.std.proofs.lemmas.Iterator.{YieldsList-from_map}
+use Rattle.std.proofs.lemmas.Iterator.Adapters.{fact_from_collect}
+use Rattle.std.proofs.lemmas.Iterator.Consumers.{YieldsList-at, YieldsList-from_filter, YieldsList-from_rest}
+use Rattle.vecmap.specs.Pairs.{puts}
+use Rattle.vecmap_callers.proofs.traits.thirds.Goals as goal
+
+pub returns : goal.returns
+returns c =
+    let items = YieldsList-at c.filter.ensures.source (YieldsList-from_rest c.args.stock.now.entries (search rules)) in
+    let passing = YieldsList-from_filter _ (λ pair. nat_lt 9 pair.1) items c.filter.ensures.closure (λ x r q k. search (rules, tests)) in
+    fact_from_collect (λ pairs made. made.entries ≡ puts nat_eq [] pairs) c.collect.result c.collect.ensures.ran
+    (YieldsList-from_map _ (λ pair. (pair.0, pair.1 / 3)) (YieldsList-at c.map.ensures.source passing) c.map.ensures.closure (λ x r q k. search (rules, tests)))
