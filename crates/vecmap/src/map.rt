@@ -25,9 +25,6 @@
 //!   (`bulk.rt`); the trait `Extend` (`extending.rt`); `From<Vec>`, `from_vec_counted`, `from_array`,
 //!   `from_vec_unchecked`, `to_vec` (`conversion.rt`)
 //! - entries: `entry`, `Entry` (`entry.rt`), `OccupiedEntry` (`entry/occupied.rt`), `VacantEntry` (`entry/vacant.rt`)
-//! - counting comparisons: `get_counted`, `get_index_of_counted`, `contains_key_counted`, `insert_counted`,
-//!   `remove_counted`, `entry_counted`, `from_iter_counted`, `append_counted`, `extend_counted` (`counting.rt`), with a
-//!   `Counter` (`compare.rt` of `crates/vecmap_base/src`)
 //! - iteration: `iter`, `iter_mut`, `keys`, `values`, `values_mut`, `into_keys`, `into_values`, loops (`iteration.rt`);
 //!   the iterators themselves (`iter/pairs.rt`, `iter/keys.rt`, `iter/values.rt` of `crates/vecmap_base/src`), and the
 //!   three generic types of which they are aliases (`iter/by_reference.rt`, `iter/by_mut.rt`, `iter/by_value.rt`)

@@ -21,10 +21,6 @@
 //!   (`conversion.rt`)
 //! - two sets: `is_disjoint`, `is_subset`, `is_superset`, `==` (`equality.rt`); `difference`, `intersection`,
 //!   `symmetric_difference`, `union` (`lazy.rt`) with their iterators (`lazy/`); `&`, `|`, `^`, `-` (`operators.rt`)
-//! - counting comparisons: `contains_counted`, `get_counted`, `get_index_of_counted`, `insert_counted`,
-//!   `remove_counted`, `from_iter_counted`, `append_counted`, `extend_counted`, `is_disjoint_counted`,
-//!   `is_subset_counted`, `is_superset_counted` (`counting.rt`), with a `Counter` (`compare.rt` of
-//!   `crates/vecmap_base/src`)
 //! - iteration: `iter`, loops (`iteration.rt`); the iterators themselves (`iter/elements.rt` of
 //!   `crates/vecmap_base/src`), and the two generic types of which they are aliases (`iter/by_reference.rt`,
 //!   `iter/by_value.rt`)

@@ -1,13 +1,12 @@
 -- A rotation by one of the part between two indices moves one item from one index to the other. Replacing each item of
 -- the part by the one next to it does the same.
-use Rattle.std.proofs.lemmas.Grind.{common_steps}
 use Rattle.std.specs.{List.Sorted.IsPermutation, Option.option_map_or}
 use Rattle.std.proofs.Common.{◌≡◌, ℕ, zero, suc, ◌+◌, ◌-◌, ◌<◌, ◌≤◌, List, [], ◌∷◌, ◌++◌, ap, arith, append_assoc, drop, drop_at, get_or, insert, length, length-take-le, nat_eq, false, refl, remove, reverse, set, slice_get, swap, Some, subst, sym, take, take_at, true≢false, ◌∙◌}
 use Rattle.std.proofs.lemmas.Bool.{eq-eqb}
 use Rattle.std.proofs.lemmas.List.{drop-set-lt, get_or-reverse, get_or-set_other, get_or-set_same, length-reverse, length-set, take-set-le, take_more}
-use Rattle.std.proofs.lemmas.List.Edits.{insert_end, length-remove, swap_is}
+use Rattle.std.proofs.lemmas.List.Edits.{length-remove, swap_is}
 use Rattle.std.proofs.lemmas.List.Sorted.{IsPermutation-insert, IsPermutation-remove, IsPermutation-trans}
-use Rattle.std.proofs.lemmas.Option.{get_or_from_slice_get, slice_get-get_or, slice_get_within}
+use Rattle.std.proofs.lemmas.Option.{get_or_from_slice_get, slice_get-get_or}
 use Rattle.std.proofs.lemmas.Grind.{get_or-set_at}
 use Rattle.std.proofs.Math.Seq.{take-length}
 use Rattle.vecmap_base.specs.Items.{moved}
@@ -223,7 +222,3 @@ module _ {X : Type 0} where
       let back : length s - 1 - j ≡ i = omega (arith, h) in
       let read : get_or (reverse s) j x ≡ get_or s i x = get_or-reverse s j x (omega (arith, h)) ∙ ap (λ n. get_or s n x) back in
       ap (λ l. slice_get l j) e ∙ slice_get-get_or (reverse s) j x (omega (arith, length-reverse s, h)) ∙ ap Some read ∙ sym (slice_get-get_or s i x h)
-
-  -- An item that is moved to the end.
-  pub moved_last : (xs ys : List X) (from to : ℕ) (x : X) → ys ≡ moved xs from to → slice_get xs from ≡ Some x → to ≡ length xs - 1 → ys ≡ remove xs from ++ x ∷ []
-  moved_last xs ys from to x e at last = grind (arith, common_steps, length-remove, slice_get_within, insert_end)

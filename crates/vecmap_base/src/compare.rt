@@ -18,7 +18,7 @@ use std::sync::ledger::{Blank, Book, Ledger, Share};
 ///
 /// ```
 /// let mut counter: Counter<Brand> = Counter::open(Blank::new(1));
-/// find_equivalent_counted(&[("a", 1), ("b", 2)], "b", &mut counter) // Some(1)
+/// find_by(&[("a", 1), ("b", 2)], &"b", &mut counter) // Some(1)
 /// // Now the counter is 2.
 /// ```
 #[derive(Drop)]

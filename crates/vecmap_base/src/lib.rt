@@ -35,9 +35,8 @@ pub use iter::{
     KeysMut, Values, ValuesMut,
 };
 pub use lookup::{
-    contains_equivalent, contains_equivalent_counted, contains_item, contains_item_inline, find,
-    find_equivalent, find_equivalent_counted, find_item, find_item_equivalent,
-    find_item_equivalent_counted, find_item_str, find_str,
+    contains_by, contains_equivalent, contains_item, contains_item_inline, find, find_by,
+    find_equivalent, find_item, find_item_by, find_item_equivalent, find_item_str, find_str,
 };
 pub use moving::{insert_reserved, move_to, remove_item, replace_and_move};
 pub use refused::Refused;

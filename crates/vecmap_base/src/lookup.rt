@@ -1,15 +1,12 @@
 //! Searches of a slice for the first key or item that is equal to one, has the bytes of a text, or matches a query.
 //!
-//! Four functions return whether an item is present. The first takes a query. The others take an item, and differ in
-//! speed alone:
+//! Three functions return whether an item is present. `contains_equivalent` takes a query. `contains_item` takes an item,
+//! and `contains_item_inline` differs in speed alone: it inlines the loop over few items.
 //!
-//! - `contains_equivalent` chooses between a plain loop and `is_any_in_blocks`.
-//! - `contains_item` calls it with the item as the query.
-//! - `contains_item_inline` inlines a plain loop over few items, and calls `contains_item` for more.
-//! - `contains_by_loop` is that plain loop.
-//!
-//! Each search by a query has a second form, which counts its comparisons in a [`Counter`]. The first form calls it with
-//! a counter that nobody reads.
+//! `find_by`, `find_item_by` and `contains_by` compare by a [`Compare`], which counts. No type of theirs has a bound, so
+//! they can compare in no other way. The other searches call them with a [`Counter`] that nobody reads: the functions
+//! `.._with` open it, since its ledger is chosen by the proof of their caller. Counters have no size and no code, so begin
+//! to read at `find_by`.
 ghost use Rattle.std.specs.Prelude.{◌≡◌, ◌+◌, ◌<◌, ◌≤◌, IfSome, IsTrue, None, false, length, position};
 ghost use Rattle.std.specs.List.{list_any};
 ghost use Rattle.std.specs.Map.{keys_of};
@@ -127,7 +124,10 @@ pub fn find_item_str(items: &[String], text: &str) -> Option<usize>
 pub fn contains_item<T: Eq>(items: &[T], item: &T) -> bool
     ensures { result ≡ is_member T.eq items.now item.now }
 {
-    contains_equivalent(items, item)
+    if are_small(items, MIN_LENGTH_FOR_BLOCKS) {
+        return contains_in_blocks(items, item);
+    }
+    contains_by_std(items, item)
 }
 
 /// Like [`contains_item`], but the loop over few items is inlined.
@@ -146,28 +146,18 @@ pub fn contains_item_inline<T: Eq>(items: &[T], item: &T) -> bool
     ensures { result ≡ is_member T.eq items.now item.now }
 {
     if items.len() < MIN_LENGTH_FOR_CALL {
-        return contains_by_loop(items, item);
+        return contains_by_std(items, item);
     }
     contains_item(items, item)
 }
 
-// Like [`contains_item`], by a plain loop, which is inlined. It is the fastest for few items.
+// Like [`contains_item`], by std's loop, which is inlined. It is the fastest for few items: it does not count, and LLVM
+// makes twice as many instructions of a loop that counts.
 #[inline(always)]
-fn contains_by_loop<T: Eq>(items: &[T], item: &T) -> bool
+pub(crate) fn contains_by_std<T: Eq>(items: &[T], item: &T) -> bool
     ensures { result ≡ is_member T.eq items.now item.now }
 {
-    contains_by_loop_with::<Brand, T>(items, item, Blank::new(1))
-}
-
-#[inline(always)]
-fn contains_by_loop_with<L: Ledger, T: Eq>(items: &[T], item: &T, blank: Blank) -> bool
-    requires same_name { blank.name ≡ L.name }
-    requires same_parts { blank.parts ≡ L.parts }
-    requires one_part { blank.parts ≡ 1 }
-    ensures { result ≡ is_member T.eq items.now item.now }
-{
-    let mut counter: Counter<L> = Counter::open(blank);
-    is_any_by_loop(items, &item, &mut counter)
+    items.iter().any(|other| *item == *other)
 }
 
 // Returns `true` if one of `items` matches `query`, by a plain loop.
@@ -197,7 +187,7 @@ pub(crate) fn are_small<T>(items: &[T], least: usize) -> bool
 ///
 /// # Complexity
 ///
-/// As many comparisons as [`find_equivalent_counted`] makes: at most `pairs.len()`.
+/// As many comparisons as [`find_by`] makes: at most `pairs.len()`.
 ///
 /// # Examples
 ///
@@ -225,10 +215,10 @@ fn find_equivalent_with<L: Ledger, K: Eq, V, Q: Equivalent<K>>(
     ensures within { IfSome result (λ i. i < length pairs.now) }
 {
     let mut counter: Counter<L> = Counter::open(blank);
-    find_equivalent_counted(pairs, query, &mut counter)
+    find_by(pairs, &query, &mut counter)
 }
 
-/// Like [`find_equivalent`], but counts its comparisons.
+/// Returns the index of the first pair whose key matches `query`, and counts the comparisons.
 ///
 /// # Complexity
 ///
@@ -239,28 +229,28 @@ fn find_equivalent_with<L: Ledger, K: Eq, V, Q: Equivalent<K>>(
 ///
 /// ```
 /// let mut counter: Counter<Brand> = Counter::open(Blank::new(1));
-/// find_equivalent_counted(&[("a", 1), ("b", 2), ("c", 3)], "b", &mut counter) // Some(1)
+/// find_by(&[("a", 1), ("b", 2), ("c", 3)], &"b", &mut counter) // Some(1)
 /// // Now the counter is 2.
 /// ```
 #[inline]
 #[tactic(auto, using(crate::proofs::PairsLemmas::ByIndex::index_by_is, crate::proofs::DuplicatesLemmas::SearchCost::key_search_cost))]
-pub fn find_equivalent_counted<K: Eq, V, Q: Equivalent<K>, L: Ledger>(
+pub fn find_by<Q, K, V, C: Compare<Q, K>>(
     pairs: &[(K, V)],
-    query: Q,
-    counter: &mut Counter<L>,
+    query: &Q,
+    compare: &mut C,
 ) -> Option<usize>
-    ensures index { result ≡ index_by (Q.equivalent query) pairs.now }
+    ensures index { result ≡ index_by (C.equal query.now) pairs.now }
     ensures within { IfSome result (λ i. i < length pairs.now) }
-    ensures counted { counter.new
-        ≡ counter.old + search_cost_by (Q.equivalent query) (keys_of pairs.now) }
-    ensures hit { IfSome result (λ i. counter.new ≡ counter.old + (i + 1)) }
-    ensures miss { result ≡ None → counter.new ≡ counter.old + length pairs.now }
-    ensures at_most { counter.new ≤ counter.old + length pairs.now }
+    ensures counted { C.made compare.new
+        ≡ C.made compare.old + search_cost_by (C.equal query.now) (keys_of pairs.now) }
+    ensures hit { IfSome result (λ i. C.made compare.new ≡ C.made compare.old + (i + 1)) }
+    ensures miss { result ≡ None → C.made compare.new ≡ C.made compare.old + length pairs.now }
+    ensures at_most { C.made compare.new ≤ C.made compare.old + length pairs.now }
 {
     if is_small::<K>() {
-        return find_pair_unrolled(pairs, &query, counter);
+        return find_pair_unrolled(pairs, query, compare);
     }
-    find_by_loop(pairs, &query, counter)
+    find_by_loop(pairs, query, compare)
 }
 
 // Like `find_pair_unrolled`, by a plain loop.
@@ -287,7 +277,7 @@ fn find_by_loop<K, V, Q, C: Compare<Q, K>>(
 ///
 /// # Complexity
 ///
-/// As many comparisons as [`find_item_equivalent_counted`] makes: at most `items.len()`. Among 32 items or more, of at
+/// As many comparisons as [`find_item_by`] makes: at most `items.len()`. Among 32 items or more, of at
 /// most 8 bytes each, up to seven comparisons come after the match.
 ///
 /// # Examples
@@ -316,10 +306,10 @@ fn find_item_equivalent_with<L: Ledger, T: Eq, Q: Equivalent<T>>(
     ensures within { IfSome result (λ i. i < length items.now) }
 {
     let mut counter: Counter<L> = Counter::open(blank);
-    find_item_equivalent_counted(items, query, &mut counter)
+    find_item_by(items, &query, &mut counter)
 }
 
-/// Like [`find_item_equivalent`], but counts its comparisons.
+/// Returns the index of the first item that matches `query`, and counts the comparisons.
 ///
 /// # Complexity
 ///
@@ -330,34 +320,34 @@ fn find_item_equivalent_with<L: Ledger, T: Eq, Q: Equivalent<T>>(
 ///
 /// ```
 /// let mut counter: Counter<Brand> = Counter::open(Blank::new(1));
-/// find_item_equivalent_counted(&["a", "b", "c"], "b", &mut counter) // Some(1)
+/// find_item_by(&["a", "b", "c"], &"b", &mut counter) // Some(1)
 /// // Now the counter is 2.
 /// ```
 #[inline]
-pub fn find_item_equivalent_counted<T: Eq, Q: Equivalent<T>, L: Ledger>(
+pub fn find_item_by<Q, T, C: Compare<Q, T>>(
     items: &[T],
-    query: Q,
-    counter: &mut Counter<L>,
+    query: &Q,
+    compare: &mut C,
 ) -> Option<usize>
-    ensures index { result ≡ position (Q.equivalent query) items.now }
+    ensures index { result ≡ position (C.equal query.now) items.now }
     ensures within { IfSome result (λ i. i < length items.now) }
     ensures few { length items.now < 32
-        → counter.new ≡ counter.old + search_cost_by (Q.equivalent query) items.now }
-    ensures miss { result ≡ None → counter.new ≡ counter.old + length items.now }
-    ensures at_most { counter.new ≤ counter.old + length items.now }
-    ensures near { counter.new
-        ≤ counter.old + (search_cost_by (Q.equivalent query) items.now + 7) }
+        → C.made compare.new ≡ C.made compare.old + search_cost_by (C.equal query.now) items.now }
+    ensures miss { result ≡ None → C.made compare.new ≡ C.made compare.old + length items.now }
+    ensures at_most { C.made compare.new ≤ C.made compare.old + length items.now }
+    ensures near { C.made compare.new
+        ≤ C.made compare.old + (search_cost_by (C.equal query.now) items.now + 7) }
 {
     if !are_small(items, MIN_LENGTH_FOR_FOURS) {
-        return find_item_by_loop(items, &query, counter);
+        return find_item_by_loop(items, query, compare);
     }
 
     // The `?` takes each result apart, and `Some` makes a new one. If the result of either call were returned as it is,
     // LLVM would keep it as one value, and each caller would test again whether an item was found.
     let index = if items.len() >= MIN_LENGTH_FOR_EIGHTS {
-        find_item_of_many(items, query, counter)?
+        find_item_of_many(items, query, compare)?
     } else {
-        find_item_unrolled(items, &query, counter)?
+        find_item_unrolled(items, query, compare)?
     };
     Some(index)
 }
@@ -382,28 +372,28 @@ fn find_item_by_loop<T, Q, C: Compare<Q, T>>(
     None
 }
 
-// Like `find_item_equivalent_counted`, for many small items. It is not inlined, so that the search of a short list is.
+// Like `find_item_by`, for many small items. It is not inlined, so that the search of a short list is.
 #[inline(never)]
-fn find_item_of_many<T: Eq, Q: Equivalent<T>, L: Ledger>(
+fn find_item_of_many<Q, T, C: Compare<Q, T>>(
     items: &[T],
-    query: Q,
-    counter: &mut Counter<L>,
+    query: &Q,
+    compare: &mut C,
 ) -> Option<usize>
-    ensures index { result ≡ position (Q.equivalent query) items.now }
+    ensures index { result ≡ position (C.equal query.now) items.now }
     ensures within { IfSome result (λ i. i < length items.now) }
-    ensures miss { result ≡ None → counter.new ≡ counter.old + length items.now }
-    ensures hit { IfSome result (λ i. counter.new ≤ counter.old + (i + 8)) }
-    ensures at_most { counter.new ≤ counter.old + length items.now }
+    ensures miss { result ≡ None → C.made compare.new ≡ C.made compare.old + length items.now }
+    ensures hit { IfSome result (λ i. C.made compare.new ≤ C.made compare.old + (i + 8)) }
+    ensures at_most { C.made compare.new ≤ C.made compare.old + length items.now }
 {
-    find_by_eights(items, &query, counter)
+    find_by_eights(items, query, compare)
 }
 
 /// Returns `true` if one of `items` matches `query`.
 ///
 /// # Complexity
 ///
-/// As many comparisons as [`contains_equivalent_counted`] makes: at most `items.len()`. Among four items or more, of at
-/// most 8 bytes each, up to seven of them come after the first that matches.
+/// As many comparisons as [`contains_by`] makes: at most `items.len()`. Among four items or more, of at most 8 bytes each,
+/// up to seven of them come after the first that matches.
 ///
 /// # Examples
 ///
@@ -429,10 +419,10 @@ fn contains_equivalent_with<L: Ledger, T: Eq, Q: Equivalent<T>>(
     ensures { result ≡ list_any (Q.equivalent query) items.now }
 {
     let mut counter: Counter<L> = Counter::open(blank);
-    contains_equivalent_counted(items, query, &mut counter)
+    contains_by(items, &query, &mut counter)
 }
 
-/// Like [`contains_equivalent`], but counts its comparisons.
+/// Returns `true` if one of `items` matches `query`, and counts the comparisons.
 ///
 /// # Complexity
 ///
@@ -444,28 +434,24 @@ fn contains_equivalent_with<L: Ledger, T: Eq, Q: Equivalent<T>>(
 ///
 /// ```
 /// let mut counter: Counter<Brand> = Counter::open(Blank::new(1));
-/// contains_equivalent_counted(&["a", "b"], "c", &mut counter) // false
+/// contains_by(&["a", "b"], &"c", &mut counter) // false
 /// // Now the counter is 2.
 /// ```
 #[inline]
 #[tactic(auto, using(crate::proofs::DuplicatesLemmas::SearchCost::search_cost_none))]
-pub fn contains_equivalent_counted<T: Eq, Q: Equivalent<T>, L: Ledger>(
-    items: &[T],
-    query: Q,
-    counter: &mut Counter<L>,
-) -> bool
-    ensures found { result ≡ list_any (Q.equivalent query) items.now }
+pub fn contains_by<Q, T, C: Compare<Q, T>>(items: &[T], query: &Q, compare: &mut C) -> bool
+    ensures found { result ≡ list_any (C.equal query.now) items.now }
     ensures few { length items.now < 4
-        → counter.new ≡ counter.old + search_cost_by (Q.equivalent query) items.now }
-    ensures miss { result ≡ false → counter.new ≡ counter.old + length items.now }
-    ensures at_most { counter.new ≤ counter.old + length items.now }
-    ensures near { counter.new
-        ≤ counter.old + (search_cost_by (Q.equivalent query) items.now + 7) }
+        → C.made compare.new ≡ C.made compare.old + search_cost_by (C.equal query.now) items.now }
+    ensures miss { result ≡ false → C.made compare.new ≡ C.made compare.old + length items.now }
+    ensures at_most { C.made compare.new ≤ C.made compare.old + length items.now }
+    ensures near { C.made compare.new
+        ≤ C.made compare.old + (search_cost_by (C.equal query.now) items.now + 7) }
 {
     if are_small(items, MIN_LENGTH_FOR_BLOCKS) {
-        return is_any_in_blocks(items, &query, counter);
+        return is_any_in_blocks(items, query, compare);
     }
-    is_any_by_loop(items, &query, counter)
+    is_any_by_loop(items, query, compare)
 }
 
 // Like [`contains_item`], by `is_any_in_blocks`.

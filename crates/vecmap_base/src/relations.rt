@@ -5,7 +5,9 @@ ghost use Rattle.std.specs.Set.{is_member};
 ghost use Rattle.vecmap_base.specs.Equality.{is_within};
 ghost use Rattle.vecmap_base.specs.Items.{both};
 
-use crate::lookup::{MIN_LENGTH_FOR_BLOCKS, MIN_LENGTH_FOR_CALL, are_small, contains_in_blocks};
+use crate::lookup::{
+    MIN_LENGTH_FOR_BLOCKS, MIN_LENGTH_FOR_CALL, are_small, contains_by_std, contains_in_blocks,
+};
 
 /// Returns `true` if each of `items` is equal to one of `others`.
 ///
@@ -27,7 +29,7 @@ pub fn is_subset_of<T: Eq>(items: &[T], others: &[T]) -> bool
     if are_small(others, MIN_LENGTH_FOR_CALL) {
         return is_subset_in_blocks(items, others);
     }
-    items.iter().all(|item| contains_item_of_few(others, item))
+    items.iter().all(|item| contains_by_std(others, item))
 }
 
 /// Returns `true` if none of `items` is equal to one of `others`.
@@ -58,16 +60,7 @@ fn overlap<T: Eq>(items: &[T], others: &[T]) -> bool
     if are_small(others, MIN_LENGTH_FOR_BLOCKS) {
         return overlap_blocks(items, others);
     }
-    items.iter().any(|item| contains_item_of_few(others, item))
-}
-
-// Returns `true` if one of `items` is equal to `item`. It is std's loop, which does not count: within the loop of a
-// relation, LLVM makes twice as many instructions of a loop that counts.
-#[inline(always)]
-fn contains_item_of_few<T: Eq>(items: &[T], item: &T) -> bool
-    ensures { result ≡ is_member T.eq items.now item.now }
-{
-    items.iter().any(|other| *item == *other)
+    items.iter().any(|item| contains_by_std(others, item))
 }
 
 // The same as `is_subset_of`, for small others. It is not inlined, so that its loop does not depend on the code around

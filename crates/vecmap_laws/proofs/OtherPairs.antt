@@ -101,10 +101,6 @@ module _ {K V : Type 0} (eq : K → K → Bool) where
         ap (λ b. if b then more else p ∷ without_key eq more k) first.0 ∙ ap (λ m. p ∷ m) (without_inserted ps i k v first.1)
 
     module _ (l : List (K × V)) (d : HasDistinctKeys eq l) (k : K) where
-      -- If all keys are distinct, so do a removal of the key and a placement.
-      pub without_twice : without_key eq (without_key eq l k) k ≡ without_key eq l k
-      without_twice = without_absent (without_key eq l k) k (index_of_without_key eq o l k d)
-
       pub without_put_at : (i : ℕ) (v : V) → without_key eq (put_at eq l i k v) k ≡ without_key eq l k
       without_put_at i v = ap (λ m. without_key eq m k) (put_at_is_insert l i k v) ∙ without_inserted (without_key eq l k) i k v (index_of_without_key eq o l k d)
 

@@ -14,8 +14,3 @@ module _ {K V : Type 0} (eq : K → K → Bool) (h : V → V → V) where
   -- The list `l` after an insertion: an existing key gets `h` of its value and the new one, and a new pair is appended.
   abbrev pub put_with : List (K × V) → K → V → List (K × V)
   put_with l k v = put eq l k (option_map_or (λ old. h old v) (lookup eq l k) v)
-
-  -- Example: `puts_with nat_eq min [(1, 5)] [(1, 3), (2, 4)] ≡ [(1, 3), (2, 4)]`.
-  -- The list `l` after such an insertion of each of the pairs, in order.
-  abbrev pub puts_with : List (K × V) → List (K × V) → List (K × V)
-  puts_with l pairs = fold (λ done p. put_with done p.0 p.1) l pairs

@@ -4,7 +4,6 @@
 mod bulk;
 mod cloning;
 mod conversion;
-mod counting;
 mod drain;
 mod equality;
 mod extending;

@@ -11,10 +11,7 @@ use std::marker::Brand;
 use std::sync::ledger::{Blank, Ledger};
 use std::test::Fail;
 use vecmap::{Counter, VecMap, VecSet};
-use vecmap_base::{
-    contains_equivalent_counted, find_equivalent_counted, find_item_equivalent_counted,
-    partition_point,
-};
+use vecmap_base::{contains_by, find_by, find_item_by, partition_point};
 
 /// A number, in an item of 16 bytes. A comparison of two counts for the first.
 #[derive(Clone, Copy)]
@@ -67,11 +64,11 @@ fn comparisons_with<K: Eq + Copy, L: Ledger>(
         pairs.push((*item, ()))?;
     }
     comparisons.set(0);
-    let _index = find_equivalent_counted(&pairs, query, counter);
+    let _index = find_by(&pairs, &query, counter);
     let of_pairs = comparisons.replace(0);
-    let _index = find_item_equivalent_counted(items, query, counter);
+    let _index = find_item_by(items, &query, counter);
     let of_items = comparisons.replace(0);
-    let _found = contains_equivalent_counted(items, query, counter);
+    let _found = contains_by(items, &query, counter);
     Ok([of_pairs, of_items, comparisons.get()])
 }
 

@@ -2,7 +2,7 @@
 use Rattle.std.proofs.lemmas.Grind.{common_steps}
 use Rattle.std.specs.{Cmp.IsEquivalence, List.IsDistinct, List.list_any, List.Sorted.IsPermutation, List.swap_remove, Map.AreApart, Map.IsKeyTest, Option.option_map_or}
 use Rattle.std.specs.Set.{is_member, KeepsOthers}
-use Rattle.std.proofs.Common.{◌≡◌, ◌∙◌, ◌||◌, ◌++◌, ◌+◌, ◌-◌, ◌<◌, ◌≤◌, ◌⊎◌, ℕ, suc, Bool, true, false, List, [], ◌∷◌, None, Option, Some, ap, arith, drop, get_or, inl, inr, is_some, length, length-append, position, refl, remove, slice_get, subst, sym, take, take_at, true≢false}
+use Rattle.std.proofs.Common.{◌≡◌, ◌∙◌, ◌||◌, ◌++◌, ◌+◌, ◌<◌, ◌≤◌, ◌⊎◌, ℕ, suc, Bool, true, false, List, [], ◌∷◌, None, Option, Some, ap, arith, drop, get_or, inl, inr, is_some, length, length-append, position, refl, remove, slice_get, subst, sym, take, take_at, true≢false}
 use Rattle.std.proofs.lemmas.Bool.{cases_Bool, cases_lt}
 use Rattle.std.proofs.lemmas.List.{length-take-le, take-set-le, take-take}
 use Rattle.std.proofs.lemmas.List.Folds.{list_any-append}
