@@ -1,7 +1,7 @@
 -- What a query finds after an addition. By induction on the list for an element that does not match. A matching element
 -- is found as an equal one is.
 use Rattle.std.specs.{Cmp.IsEquivalence, Map.IsKeyTest}
-use Rattle.std.proofs.Common.{◌≡◌, Bool, false, List, [], ◌∷◌, Some, IsTrue, if◌then◌else◌, length, option_map, position, suc, unwrap_or, sym, ap, cond, ◌∙◌, inl, inr}
+use Rattle.std.proofs.Common.{arith, ◌≡◌, Bool, false, List, [], ◌∷◌, Some, IsTrue, if◌then◌else◌, length, option_map, position, unwrap_or, sym, ap, ◌∙◌}
 use Rattle.std.proofs.lemmas.Bool.{cases_Bool}
 use Rattle.vecmap_base.specs.Items.{add, item_index}
 use Rattle.vecmap_base.proofs.ItemsLemmas.Recursion.{add_cons}
@@ -12,17 +12,8 @@ use Rattle.vecmap_laws.proofs.ItemQueries.{tells_as}
 module _ {T : Type 0} (eq : T → T → Bool) (test : T → Bool) where
   -- After an addition of an element that does not match, it finds what it found before.
   pub index_after_other : (s : List T) (x : T) → test x ≡ false → position test (add eq s x) ≡ position test s
-  index_after_other [] x n = position_cons test x [] ∙ ap (λ b. cond b (Some 0) (option_map suc (position test []))) n
-  index_after_other (z ∷ zs) x n =
-      ap (position test) (add_cons eq z zs x)
-      ∙ elim (cases_Bool (eq x z)) [
-        | inl e ↦ ap (λ b. position test (if b then z ∷ zs else z ∷ add eq zs x)) e
-        | inr e ↦
-            ap (λ b. position test (if b then z ∷ zs else z ∷ add eq zs x)) e
-            ∙ position_cons test z (add eq zs x)
-            ∙ ap (λ found. cond (test z) (Some 0) (option_map suc found)) (index_after_other zs x n)
-            ∙ sym (position_cons test z zs)
-      ]
+  index_after_other [] x n = grind (arith, position_cons, option_map, add_cons, cases_Bool)
+  index_after_other (z ∷ zs) x n = grind (arith, position_cons, option_map, add_cons, cases_Bool, (index_after_other zs x n))
 
   module _ (o : IsEquivalence eq) (respects : IsKeyTest eq test) where
     -- After an addition of an element that matches, it finds the index of an equal existing element, or the last index.
@@ -36,8 +27,4 @@ module _ {T : Type 0} (eq : T → T → Bool) (test : T → Bool) where
 
     -- Both cases in one.
     pub index_after_any : (s : List T) (x : T) → position test (add eq s x) ≡ (if test x then Some (unwrap_or (position test s) (length s)) else position test s)
-    index_after_any s x =
-        elim (cases_Bool (test x)) [
-          | inl h ↦ index_after_own s x h ∙ sym (ap (λ b. if b then Some (unwrap_or (position test s) (length s)) else position test s) h)
-          | inr n ↦ index_after_other s x n ∙ sym (ap (λ b. if b then Some (unwrap_or (position test s) (length s)) else position test s) n)
-        ]
+    index_after_any s x = grind (arith, cases_Bool, index_after_own, index_after_other)

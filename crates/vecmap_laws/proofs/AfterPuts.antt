@@ -1,9 +1,9 @@
 -- What is found, and at which index, after one insertion and after many.
 pub use Rattle.vecmap_base.proofs.PairsLemmas.Puts.{put_some}
 use Rattle.std.specs.{Cmp.IsEquivalence, List.list_any, Map.keys_of, Option.option_and_then, Option.option_map, Option.option_map_or, Option.option_or}
-use Rattle.std.proofs.Common.{◌≡◌, ◌<◌, ◌+◌, ℕ, Bool, position, true, false, List, [], ◌∷◌, ◌++◌, Option, None, Some, if◌then◌else◌, is_some, length, slice_get, unwrap_or, refl, sym, ap, ◌∙◌, arith, length-append, true≢false}
+use Rattle.std.proofs.Common.{◌≡◌, ◌<◌, ◌+◌, ℕ, Bool, true, List, [], ◌∷◌, ◌++◌, Option, None, Some, if◌then◌else◌, is_some, length, slice_get, unwrap_or, refl, sym, ap, ◌∙◌, arith, length-append, true≢false}
 use Rattle.std.proofs.lemmas.{List.length-map, Map.Made.is_some-lookup, Option.slice_get-map}
-use Rattle.vecmap_base.specs.Pairs.{HasDistinctKeys, index_of, index_or_length, lookup, put, put_key, puts, value_at, with_value, without_key}
+use Rattle.vecmap_base.specs.Pairs.{HasDistinctKeys, index_of, index_or_length, lookup, put, put_key, puts, value_at, without_key}
 use Rattle.vecmap_base.proofs.PairsLemmas.Keys.{index_of_is, keys_of_put}
 use Rattle.vecmap_base.proofs.PairsLemmas.{ByIndex.lookup_by_index, ByIndex.put_by_index, Indices.is_some_index_of}
 use Rattle.std.proofs.lemmas.Map.{lookup-remove_entry}
@@ -41,11 +41,7 @@ module _ {K V : Type 0} (eq : K → K → Bool) where
 
   -- The insertion of a new key makes the list longer by one. Any other insertion leaves its length.
   pub length_put : (l : List (K × V)) (k : K) (v : V) → length (put eq l k v) ≡ (if is_some (index_of eq l k) then length l else length l + 1)
-  length_put l k v = ap length (put_by_index eq l k v) ∙ by (index_of eq l k)
-    where
-      by : (found : Option ℕ) → length (option_map_or (λ i. with_value l i v) found (l ++ (k, v) ∷ [])) ≡ (if is_some found then length l else length l + 1)
-      by None = length-append l ((k, v) ∷ [])
-      by (Some i) = length_with_value l i v
+  length_put l k v = grind (arith, put_by_index, length-append, length_with_value)
 
   -- After insertions the list has a pair, if it had one before or one was inserted.
   pub puts_some : (l ps : List (K × V)) → 0 < length l + length ps → 0 < length (puts eq l ps)
@@ -66,11 +62,7 @@ module _ {K V : Type 0} (eq : K → K → Bool) where
 
     -- After an insertion, an existing key keeps its index, and a new one is last. Every other key keeps its index.
     pub index_of_put : (l : List (K × V)) (k : K) (v : V) (q : K) → index_of eq (put eq l k v) q ≡ (if eq k q then Some (index_or_length eq l k) else index_of eq l q)
-    index_of_put l k v q =
-        index_of_is eq (put eq l k v) q
-        ∙ ap (λ s. position (eq q) s) (keys_of_put eq l k v)
-        ∙ item_index_add eq o (keys_of l) k q
-        ∙ (λ t. if eq k q then Some (unwrap_or (sym (index_of_is eq l k) t) (length-map l (λ p. p.0) t)) else sym (index_of_is eq l q) t)
+    index_of_put l k v q = grind (arith, index_of_is, keys_of_put, item_index_add, length-map)
 
     -- The lookup of any key after an insertion.
     pub lookup_put_any : (l : List (K × V)) (k : K) (v : V) (q : K) → lookup eq (put eq l k v) q ≡ (if eq k q then Some v else lookup eq l q)
@@ -90,16 +82,8 @@ module _ {K V : Type 0} (eq : K → K → Bool) where
 
     -- The values that the insertions make from the empty list take precedence over the values of `l`.
     pub lookup_puts : (l ps : List (K × V)) (q : K) → lookup eq (puts eq l ps) q ≡ option_or (lookup eq (puts eq [] ps) q) (lookup eq l q)
-    lookup_puts l [] q = refl
-    lookup_puts l (p ∷ ps) q =
-        lookup_puts (put eq l p.0 p.1) ps q
-        ∙ ap (λ x. option_or (lookup eq (puts eq [] ps) q) x) (lookup_put_any l p.0 p.1 q ∙ by (eq p.0 q) ∙ ap (λ x. option_or x (lookup eq l q)) (sym (lookup_put_any [] p.0 p.1 q)))
-        ∙ sym (option_or_assoc (lookup eq (puts eq [] ps) q) (lookup eq (put eq [] p.0 p.1) q) (lookup eq l q))
-        ∙ ap (λ x. option_or x (lookup eq l q)) (sym (lookup_puts (put eq [] p.0 p.1) ps q))
-      where
-        by : (b : Bool) → (if b then Some p.1 else lookup eq l q) ≡ option_or (if b then Some p.1 else None) (lookup eq l q)
-        by true = refl
-        by false = refl
+    lookup_puts l [] q = grind (arith, lookup_put_any, option_or_assoc)
+    lookup_puts l (p ∷ ps) q = grind (arith, lookup_put_any, option_or_assoc, (lookup_puts (put eq l p.0 p.1) ps q), (lookup_puts (put eq [] p.0 p.1) ps q))
 
     -- If the keys of the inserted pairs are distinct, each inserted pair takes precedence over the pairs of `l`.
     pub lookup_puts_distinct : (l ps : List (K × V)) → HasDistinctKeys eq ps → (q : K) → lookup eq (puts eq l ps) q ≡ option_or (lookup eq ps q) (lookup eq l q)

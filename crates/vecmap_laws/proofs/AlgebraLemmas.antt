@@ -1,7 +1,7 @@
 -- What `intersection` and `union` yield, whichever of two lists is longer. The idea: a fact about two lists in either
 -- order is one about the shorter and the other.
 use Rattle.std.specs.Set.{is_member}
-use Rattle.std.proofs.Common.{◌≡◌, ◌+◌, ◌∙◌, Bool, true, false, ◌&&◌, ◌||◌, List, [], ap, arith, if◌then◌else◌, length, nat_lt, not}
+use Rattle.std.proofs.Common.{◌≡◌, ◌+◌, ◌∙◌, Bool, true, ◌&&◌, ◌||◌, List, [], arith, length, nat_lt, not}
 use Rattle.std.specs.{Cmp.IsEquivalence, List.IsDistinct}
 use Rattle.vecmap_base.specs.{Equality.has_same_items, Items.adds, Items.both}
 use Rattle.vecmap_base.proofs.EqualityLemmas.{Sets.set_equality_laws}
@@ -14,19 +14,11 @@ pub use Rattle.vecmap_set.proofs.OperatorLemmas.{is_member_symmetric_difference}
 module _ {T : Type 0} (a b : List T) (P : List T → List T → Type 0) where
   -- What holds of two lists in either order holds of the shorter and the other.
   pub on_shorter : P b a → P a b → P (shorter a b) (not_shorter a b)
-  on_shorter x y = by (nat_lt (length b) (length a))
-    where
-      by : (c : Bool) → P (if c then b else a) (if c then a else b)
-      by true = x
-      by false = y
+  on_shorter x y = grind (arith, nat_lt)
 
   -- It also holds of the longer and the other.
   pub on_longer : P b a → P a b → P (longer a b) (not_longer a b)
-  on_longer x y = by (nat_lt (length a) (length b))
-    where
-      by : (c : Bool) → P (if c then b else a) (if c then a else b)
-      by true = x
-      by false = y
+  on_longer x y = grind (arith, nat_lt)
 
 module _ {T : Type 0} (eq : T → T → Bool) (o : IsEquivalence eq) (a b : List T) where
   -- The lazy lists are equal, as sets, to those of the operators.
@@ -58,10 +50,7 @@ module _ {T : Type 0} (eq : T → T → Bool) (o : IsEquivalence eq) (a b : List
   length_lazy_intersection = on_shorter a b (λ s t. length (both eq s t) ≡ length (both eq a b)) (length_both_turned eq o b a e d) (λ i. length (both eq a b))
 
   length_lazy_union : length (lazy_union eq a b) ≡ length (union_of eq a b)
-  length_lazy_union =
-      on_longer a b (λ s t. length (union_of eq s t) ≡ length (union_of eq a b))
-      (omega (arith, length_union eq o a b d e, length_union eq o b a e d, length_both_turned eq o a b d e))
-      (λ i. length (union_of eq a b))
+  length_lazy_union = grind (arith, on_longer, length_union, length_both_turned)
 
   pub lazy_lengths_add : length (lazy_intersection eq a b) + length (lazy_union eq a b) ≡ length a + length b
   lazy_lengths_add = omega (arith, length_lazy_intersection, length_lazy_union, lengths_add)
@@ -70,8 +59,4 @@ module _ {T : Type 0} (eq : T → T → Bool) (o : IsEquivalence eq) where
   -- An element is in the symmetric difference of two collected sets if it is in exactly one of the lists. The equation is
   -- a premise, since the search opens a member of a symmetric difference.
   pub is_member_of_collected : (xs ys s : List T) → s ≡ symmetric_difference_of eq (adds eq [] xs) (adds eq [] ys) → (z : T) → is_member eq s z ≡ ((is_member eq xs z && not (is_member eq ys z)) || (is_member eq ys z && not (is_member eq xs z)))
-  is_member_of_collected xs ys s e z =
-      ap (λ m. is_member eq m z) e
-      ∙ is_member_symmetric_difference eq o (adds eq [] xs) (adds eq [] ys) z
-      ∙ ap (λ b. (b && not (is_member eq (adds eq [] ys) z)) || (is_member eq (adds eq [] ys) z && not b)) (is_member_adds eq o [] xs z)
-      ∙ ap (λ b. (is_member eq xs z && not b) || (b && not (is_member eq xs z))) (is_member_adds eq o [] ys z)
+  is_member_of_collected xs ys s e z = grind (arith, is_member_symmetric_difference, is_member_adds)

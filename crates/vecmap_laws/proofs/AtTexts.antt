@@ -1,7 +1,7 @@
 -- The lemmas of the rulesets of lookups and of members, at texts: `grind` sees the `==` of texts as it computes, so it
 -- matches a lemma that is stated of it, and not one of any `==`.
 use Rattle.std.specs.{String.string_eq_equiv}
-use Rattle.std.proofs.Common.{◌≡◌, ℕ, String, false, List, None, Some, IsTrue, ap, bytes_eq, eqb-true, if◌then◌else◌, nat_eq, refl, string_eq, sym, ◌∙◌, Bool, true}
+use Rattle.std.proofs.Common.{rules, ◌≡◌, ℕ, String, List, None, Some, IsTrue, bytes_eq, eqb-true, if◌then◌else◌, nat_eq, string_eq}
 use Rattle.vecmap_base.specs.Pairs.{HasDistinctKeys, has_text, lookup, lookup_by, put, without_by}
 use Rattle.vecmap_laws.proofs.Equations.{put_put}
 use Rattle.vecmap_laws.proofs.MapEquality.{lookups_of_equal}
@@ -28,11 +28,7 @@ module _ {V : Type 0} (l : List (String Global × V)) (text : List ℕ) where
   text_put k v = lookup_put_any_query string_eq string_equality (has_text text) (text_respects text) l k v
 
   pub text_without : (other : List ℕ) → HasDistinctKeys string_eq l → lookup_by (has_text text) (without_by (has_text other) l) ≡ (if bytes_eq other text then None else lookup_by (has_text text) l)
-  text_without other d = by (bytes_eq other text) refl
-    where
-      by : (b : Bool) → bytes_eq other text ≡ b → lookup_by (has_text text) (without_by (has_text other) l) ≡ (if b then None else lookup_by (has_text text) l)
-      by true e = ap (λ t. lookup_by (has_text t) (without_by (has_text other) l)) (sym (same_texts other text e)) ∙ lookup_without_query string_eq string_equality (has_text other) (text_respects other) l d
-      by false e = lookup_without_apart (has_text other) (has_text text) (texts_apart other text e) l
+  text_without other d = search (rules, bytes_eq, same_texts, lookup_without_query, string_eq, string_equality, text_respects, lookup_without_apart, texts_apart)
 
 -- What texts find after calls.
 pub ruleset texts = (text_put, text_without)

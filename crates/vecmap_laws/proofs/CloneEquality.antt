@@ -1,5 +1,6 @@
 -- A map is equal to its clone, if clones are equal to their originals.
-use Rattle.std.proofs.Common.{◌≡◌, ◌+◌, ◌&&◌, Bool, true, List, [], ◌∷◌, cond, refl, sym, ◌∙◌}
+use Rattle.std.proofs.lemmas.Grind.{common_steps}
+use Rattle.std.proofs.Common.{arith, ◌≡◌, Bool, true, List, [], ◌∷◌, ◌∙◌}
 use Rattle.std.proofs.lemmas.Map.Entries.{entries_from_clone}
 use Rattle.std.specs.{Cmp.IsEquivalence, Cmp.nat_eq_equiv}
 use Rattle.std.specs.Prelude.{ℕ, nat_eq}
@@ -13,16 +14,10 @@ module _ {K V : Type 0} (key : K → K → Bool) (value : V → V → Bool) (k :
 
   module _ (R : K → K → Type 0) (S : V → V → Type 0) (same_keys : (x y : K) → R x y → key x y ≡ true) (same_values : (x y : V) → S x y → value x y ≡ true) where
     clone_counts : (l m : List (K × V)) → ArePairClones R S l m → (x : K × V) → count key value l x ≡ count key value m x
-    clone_counts [] [] c x = refl
-    clone_counts [] (r ∷ rs) c x = absurd c
-    clone_counts (p ∷ ps) [] c x = absurd c
-    clone_counts (p ∷ ps) (r ∷ rs) c x =
-        let o = same_pair_laws key value k v in
-        let both : same_pair key value p r ≡ true = (λ t. same_keys p.0 r.0 c.0.0 t && same_values p.1 r.1 c.0.1 t) in
-        let alike : same_pair key value x p ≡ same_pair key value x r = o.symm x p ∙ o.congr p r x both ∙ o.symm r x in
-        many_cons (same_pair key value) o p ps x
-        ∙ (λ t. cond (alike t) 1 0 + clone_counts ps rs c.1 x t)
-        ∙ sym (many_cons (same_pair key value) o r rs x)
+    clone_counts [] [] c x = grind (arith, common_steps, same_pair_laws, many_cons)
+    clone_counts [] (r ∷ rs) c x = grind (arith, common_steps, same_pair_laws, many_cons)
+    clone_counts (p ∷ ps) [] c x = grind (arith, common_steps, same_pair_laws, many_cons)
+    clone_counts (p ∷ ps) (r ∷ rs) c x = grind (arith, common_steps, same_pair_laws, many_cons, (clone_counts ps rs c.1 x))
 
     -- Clones of equal keys and equal values make an equal map.
     pub clones_equal : (l m : List (K × V)) → ArePairClones R S l m → has_same_counts key value l m ≡ true

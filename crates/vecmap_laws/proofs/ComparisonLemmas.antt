@@ -27,10 +27,7 @@ module _ {T : Type 0} (eq : T → T → Bool) (o : IsEquivalence eq) where
       rw (one_on, add_absent eq s x absent) (omega (arith, more, search_cost_absent eq s x absent, cost_more n))
 
   pub comparisons_distinct : (xs : List T) → IsDistinct eq xs → comparisons eq xs ≡ cost (length xs)
-  comparisons_distinct xs d =
-      let e : 0 + length xs ≡ length xs = omega arith in
-      let f = rw e at (adds_cost_distinct [] xs d) in
-      omega (arith, f)
+  comparisons_distinct xs d = grind (arith, adds_cost_distinct)
 
 -- The same of the keys of pairs.
 module _ {K V : Type 0} (eq : K → K → Bool) where

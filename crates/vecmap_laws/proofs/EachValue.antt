@@ -1,5 +1,5 @@
 -- A function of each key and each value of a list of pairs, and a fact about each value.
-use Rattle.std.proofs.Common.{◌≡◌, Bool, true, false, List, [], ◌∷◌, Some, All, if◌then◌else◌, map, option_map, refl, sym, ap, ◌∙◌, subst}
+use Rattle.std.proofs.Common.{arith, ◌≡◌, Bool, true, false, List, [], ◌∷◌, Some, All, if◌then◌else◌, map, option_map, refl, subst}
 use Rattle.std.proofs.lemmas.{List.Elements.All-cons, List.Elements.All-head, List.Elements.All-tail}
 use Rattle.vecmap_base.specs.Pairs.{lookup, map_values, put}
 use Rattle.vecmap_base.proofs.PairsLemmas.Indices.{lookup_by_map_values}
@@ -11,15 +11,8 @@ module _ {K L V W : Type 0} (eq : K → K → Bool) (eq_image : L → L → Bool
   -- An insertion, seen in the list with `f` of each key and `g` of each value, inserts `f` of the key and `g` of the
   -- value.
   pub map_pairs_put : (l : List (K × V)) (k : K) (v : V) → map (λ p. (f p.0, g p.1)) (put eq l k v) ≡ put eq_image (map (λ p. (f p.0, g p.1)) l) (f k) (g v)
-  map_pairs_put [] k v = refl
-  map_pairs_put (p ∷ ps) k v =
-      let h : K × V → L × W = λ q. (f q.0, g q.1) in
-      by (eq k p.0) (map_pairs_put ps k v)
-      ∙ ap (λ b. if b then (f p.0, g v) ∷ map h ps else h p ∷ put eq_image (map h ps) (f k) (g v)) (sym (same k p.0))
-    where
-      by : (b : Bool) → map (λ q. (f q.0, g q.1)) (put eq ps k v) ≡ put eq_image (map (λ q. (f q.0, g q.1)) ps) (f k) (g v) → map (λ q. (f q.0, g q.1)) (if b then (p.0, v) ∷ ps else p ∷ put eq ps k v) ≡ (if b then (f p.0, g v) ∷ map (λ q. (f q.0, g q.1)) ps else (f p.0, g p.1) ∷ put eq_image (map (λ q. (f q.0, g q.1)) ps) (f k) (g v))
-      by true e = refl
-      by false e = ap (λ t. (f p.0, g p.1) ∷ t) e
+  map_pairs_put [] k v = grind (arith)
+  map_pairs_put (p ∷ ps) k v = grind (arith, (map_pairs_put ps k v))
 
 module _ {K V W : Type 0} (eq : K → K → Bool) (g : V → W) where
   -- In the list with `g` of each value, a lookup finds `g` of what it found before.

@@ -1,6 +1,6 @@
 -- What lookups find after each call, as equations that `grind` applies from left to right. `Rules` has lists of them.
 use Rattle.std.specs.{Cmp.IsEquivalence, List.IsDistinct, List.Sorted.SwapsInRange, List.Sorted.apply_swaps, Set.is_member}
-use Rattle.std.proofs.Common.{◌≡◌, ◌<◌, ◌&&◌, not, ℕ, suc, zero, Bool, true, false, List, [], ◌∷◌, Option, None, Some, if◌then◌else◌, length, refl, sym, ap, ◌∙◌, arith, is_some, take, drop, remove, reverse, swap, unwrap_or}
+use Rattle.std.proofs.Common.{rules, ◌≡◌, ◌<◌, ◌&&◌, not, ℕ, suc, zero, Bool, true, false, List, [], ◌∷◌, Option, None, Some, if◌then◌else◌, length, refl, sym, ap, ◌∙◌, arith, is_some, take, drop, remove, reverse, swap, unwrap_or}
 use Rattle.std.specs.Prelude.{nat_lt}
 use Rattle.std.proofs.lemmas.{Bool.Decides.nat_tests, List.Sorted.IsPermutation-reverse}
 use Rattle.vecmap_base.specs.Items.{swap_without, swap_without_item, without_item}
@@ -61,11 +61,9 @@ all_past i f = grind (arith, nat_tests)
 
 -- In the first `n` pairs a query finds its value if its index is below `n`.
 pub lookup_by_take : {K V : Type 0} (test : K → Bool) (l : List (K × V)) (n : ℕ) → lookup_by test (take n l) ≡ (if nat_lt (unwrap_or (index_by test l) (length l)) n then lookup_by test l else None)
-lookup_by_take test l zero = none_below (unwrap_or (index_by test l) (length l)) (lookup_by test l)
-lookup_by_take test [] (suc n) = same (nat_lt 0 (suc n)) None
-lookup_by_take test (p ∷ ps) (suc n) =
-    found_below (test p.0) (Some p.1) (unwrap_or (index_by test ps) (length ps)) n (lookup_by test ps) (lookup_by test (take n ps)) (lookup_by_take test ps n)
-    ∙ ap (λ i. if nat_lt i (suc n) then (if test p.0 then Some p.1 else lookup_by test ps) else None) (sym (index_or_length_cons p ps (λ k q. test q) p.0))
+lookup_by_take test l zero = search (rules, none_below, same, found_below, index_or_length_cons)
+lookup_by_take test [] (suc n) = search (rules, none_below, same, found_below, index_or_length_cons)
+lookup_by_take test (p ∷ ps) (suc n) = search (rules, none_below, same, found_below, index_or_length_cons, (lookup_by_take test ps n))
 
 pub lookup_take : {K V : Type 0} (eq : K → K → Bool) (l : List (K × V)) (n : ℕ) (q : K) → lookup eq (take n l) q ≡ (if nat_lt (index_or_length eq l q) n then lookup eq l q else None)
 lookup_take eq l n q = lookup_by_take (eq q) l n

@@ -1,5 +1,5 @@
 -- What is found after insertions of which the first value wins.
-use Rattle.std.proofs.Common.{arith, ◌≡◌, Bool, true, false, List, [], ◌∷◌, ◌++◌, None, Some, if◌then◌else◌, ap, refl, sym, unwrap_or, ◌∙◌}
+use Rattle.std.proofs.Common.{arith, ◌≡◌, Bool, List, [], ◌∷◌, ◌++◌, None, Some, if◌then◌else◌, ap, refl, sym, unwrap_or, ◌∙◌}
 use Rattle.std.specs.Cmp.{IsEquivalence}
 use Rattle.std.specs.Map.{IsKeyTest, keys_of}
 use Rattle.std.specs.Option.{option_and_then, option_or}
@@ -43,13 +43,7 @@ module _ {K V : Type 0} (eq : K → K → Bool) where
 
     -- The same of a query.
     pub lookup_put_new_query : (test : K → Bool) → IsKeyTest eq test → (l : List (K × V)) (k : K) (v : V) → lookup_by test (put_new eq l k v) ≡ option_or (lookup_by test l) (if test k then Some v else None)
-    lookup_put_new_query test respects l k v = by (test k) refl
-      where
-        by : (b : Bool) → test k ≡ b → lookup_by test (put_new eq l k v) ≡ option_or (lookup_by test l) (if b then Some v else None)
-        by true h =
-            let same = tells_as eq o test respects k h in
-            ap (λ f. lookup_by f (put_new eq l k v)) same ∙ lookup_put_new l k v k ∙ ap (λ b. option_or (lookup eq l k) (if b then Some v else None)) (o.refl k) ∙ sym (ap (λ f. option_or (lookup_by f l) (Some v)) same)
-        by false h = lookup_put_other_query eq o test respects l k (unwrap_or (lookup eq l k) v) h ∙ sym (option_or_none (lookup_by test l))
+    lookup_put_new_query test respects l k v = grind (arith, tells_as, lookup_put_new, lookup_put_other_query, option_or_none)
 
     -- A lookup finds the old value of its key, or else the first one that the pairs give it.
     pub lookup_puts_new : (l ps : List (K × V)) (q : K) → lookup eq (puts_new eq l ps) q ≡ option_or (lookup eq l q) (lookup eq ps q)

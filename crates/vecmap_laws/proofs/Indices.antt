@@ -1,6 +1,6 @@
 -- What the definitions say that are about an index.
-use Rattle.std.specs.{Option.option_map, List.list_any, Map.keys_of}
-use Rattle.std.proofs.Common.{◌≡◌, ℕ, suc, Bool, true, false, List, ◌∷◌, Option, None, Some, if◌then◌else◌, length, unwrap_or, refl, ap, ◌∙◌, sym}
+use Rattle.std.specs.{List.list_any, Map.keys_of}
+use Rattle.std.proofs.Common.{arith, ◌≡◌, suc, Bool, false, List, ◌∷◌, None, if◌then◌else◌, ◌∙◌, sym}
 use Rattle.vecmap_base.specs.Pairs.{index_of, index_or_length}
 use Rattle.vecmap_base.proofs.PairsLemmas.Recursion.{index_of_cons}
 use Rattle.vecmap_base.proofs.PairsLemmas.ByIndex.{index_by_is}
@@ -10,12 +10,7 @@ pub use Rattle.vecmap_base.proofs.PairsLemmas.Indices.{lookup_by_map_values, is_
 module _ {K V : Type 0} (p : K × V) (ps : List (K × V)) where
   module _ (eq : K → K → Bool) (k : K) where
     pub index_or_length_cons : index_or_length eq (p ∷ ps) k ≡ (if eq k p.0 then 0 else suc (index_or_length eq ps k))
-    index_or_length_cons = ap (λ o. unwrap_or o (suc (length ps))) (index_of_cons eq p ps k) ∙ by (eq k p.0) (index_of eq ps k)
-      where
-        by : (b : Bool) (o : Option ℕ) → unwrap_or (if b then Some 0 else option_map suc o) (suc (length ps)) ≡ (if b then 0 else suc (unwrap_or o (length ps)))
-        by true o = refl
-        by false None = refl
-        by false (Some i) = refl
+    index_or_length_cons = grind (arith, index_of_cons)
 
 module _ {K V : Type 0} (eq : K → K → Bool) where
   pub index_of_none : (l : List (K × V)) (k : K) → list_any (eq k) (keys_of l) ≡ false → index_of eq l k ≡ None

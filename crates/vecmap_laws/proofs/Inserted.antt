@@ -1,5 +1,5 @@
 -- Insertions at an index, removals by index, and a pair that is removed and then inserted again.
-use Rattle.std.proofs.Common.{◌-◌, insert, remove, slice_get, slice_set, ◌≡◌, ◌<◌, ℕ, Bool, true, false, List, [], ◌∷◌, None, Option, Some, ap, arith, if◌then◌else◌, length, refl, suc, sym, true≢false, zero, ◌∙◌}
+use Rattle.std.proofs.Common.{insert, remove, slice_get, slice_set, ◌≡◌, ◌<◌, ℕ, Bool, true, false, List, [], ◌∷◌, None, Option, Some, ap, arith, if◌then◌else◌, length, refl, suc, sym, true≢false, zero, ◌∙◌}
 use Rattle.std.proofs.lemmas.Option.{none-some}
 use Rattle.std.specs.{Cmp.IsEquivalence, Option.option_and_then, Option.option_map_or}
 use Rattle.vecmap_base.proofs.PairsLemmas.{ByIndex.index_by_none, ByIndex.lookup_by_index, ByIndex.without_by_index, Updates.updates_put_at}
@@ -31,10 +31,7 @@ module _ {K V : Type 0} (eq : K → K → Bool) where
 
   -- An absent key is not that of the first pair, and is absent behind it.
   pub absent_first : (p : K × V) (ps : List (K × V)) (q : K) → index_of eq (p ∷ ps) q ≡ None → (eq q p.0 ≡ false) × (index_of eq ps q ≡ None)
-  absent_first p ps q none =
-      let lost = lookup_none (p ∷ ps) q none in
-      let apart : eq q p.0 ≡ false = passed (eq q p.0) (lookup eq ps q) p.1 (sym (look eq p ps q (eq q p.0) refl) ∙ lost) in
-      (apart, index_none ps q (sym (look eq p ps q false apart) ∙ lost))
+  absent_first p ps q none = grind (arith, lookup_none, passed, look, index_none)
 
   lookup_removed_absent : (l : List (K × V)) (i : ℕ) (q : K) → index_of eq l q ≡ None → lookup eq (remove l i) q ≡ None
   lookup_removed_absent [] zero q none = refl

@@ -1,7 +1,7 @@
 -- Pairs in two maps that are inverse to each other: one has the list `l`, and the other `flipped l`.
-use Rattle.std.proofs.Common.{◌≡◌, ℕ, Bool, true, List, [], ◌∷◌, Some, ap, refl, remove, slice_get, suc, sym, zero, ◌∙◌}
+use Rattle.std.proofs.Common.{arith, ◌≡◌, ℕ, Bool, true, List, [], ◌∷◌, Some, ap, refl, remove, slice_get, suc, sym, zero, ◌∙◌}
 use Rattle.std.proofs.lemmas.{Option.slice_get-map}
-use Rattle.std.specs.{Cmp.IsEquivalence, Option.option_map}
+use Rattle.std.specs.{Cmp.IsEquivalence}
 use Rattle.vecmap_base.specs.Pairs.{HasDistinctKeys, index_of, lookup, without_key}
 use Rattle.vecmap_laws.proofs.AfterPuts.{index_of_own}
 use Rattle.vecmap_laws.proofs.FoundLemmas.{stored_if_found}
@@ -18,9 +18,7 @@ module _ {K V : Type 0} (eq : K → K → Bool) (eq_value : V → V → Bool) wh
 
   module _ (o : IsEquivalence eq_value) (l : List (K × V)) (d : HasDistinctKeys eq_value (flipped l)) (k : K) (v : V) (found : lookup eq l k ≡ Some v) where
     at_index : (i : ℕ) × (key : K) × (index_of eq l k ≡ Some i) × (slice_get (flipped l) i ≡ Some (v, key)) × (eq k key ≡ true)
-    at_index =
-        let at = stored_if_found eq l k v found in
-        (at.0, at.1, at.2, slice_get-map (λ p. (p.1, p.0)) l at.0 ∙ ap (option_map (λ p. (p.1, p.0))) at.3, at.4)
+    at_index = grind (arith, stored_if_found, slice_get-map)
 
     -- The removal of a key from the one, and of its value from the other, removes the same pair.
     pub without_flipped : without_key eq_value (flipped l) v ≡ flipped (without_key eq l k)

@@ -13,11 +13,7 @@ use Rattle.vecmap_map.proofs.MadeLemmas.{or_none}
 module _ {T : Type 0} (eq : T → T → Bool) where
   -- An addition moves no element.
   pub slice_get_add : (s : List T) (x : T) (i : ℕ) → i < length s → slice_get (add eq s x) i ≡ slice_get s i
-  slice_get_add s x i h = by (is_member eq s x)
-    where
-      by : (b : Bool) → slice_get (if b then s else s ++ x ∷ []) i ≡ slice_get s i
-      by true = refl
-      by false = slice_get_append s (x ∷ []) i h
+  slice_get_add s x i h = grind (arith, slice_get_append)
 
   module _ (o : IsEquivalence eq) where
     -- Equal elements have the same index.

@@ -1,8 +1,9 @@
 -- Which elements are present, and at which indices, after one addition and after many. Many additions append those of
 -- the new elements that are not present.
+use Rattle.std.proofs.lemmas.Grind.{common_steps}
 use Rattle.std.specs.Set.{is_member}
 use Rattle.std.specs.{Cmp.IsEquivalence, Option.option_or}
-use Rattle.std.proofs.Common.{◌≡◌, ◌<◌, ◌+◌, ℕ, Bool, true, false, ◌||◌, not, List, [], ◌∷◌, ◌++◌, Some, if◌then◌else◌, length, option_map, slice_get, suc, zero, refl, sym, ap, ◌∙◌, arith, inl, inr}
+use Rattle.std.proofs.Common.{◌≡◌, ◌<◌, ◌+◌, ℕ, Bool, false, ◌||◌, List, [], ◌∷◌, ◌++◌, Some, length, option_map, slice_get, suc, zero, refl, sym, ap, ◌∙◌, arith}
 use Rattle.std.proofs.lemmas.{Bool.cases_Bool, List.append-nil, List.append_assoc, List.Folds.list_any-append}
 use Rattle.vecmap_base.specs.{Items.add, Items.adds, Items.item_index, Items.only}
 use Rattle.vecmap_base.proofs.ItemsLemmas.{Additions.add_absent, Additions.add_present}
@@ -24,25 +25,11 @@ module _ {T : Type 0} (eq : T → T → Bool) where
 
   -- An addition behind a front, in which the element is absent.
   add_behind : (s t : List T) (x : T) → is_member eq s x ≡ false → add eq (s ++ t) x ≡ s ++ add eq t x
-  add_behind s t x none = by (is_member eq t x) (list_any-append (eq x) s t ∙ ap (λ b. b || is_member eq t x) none)
-    where
-      by : (b : Bool) → is_member eq (s ++ t) x ≡ b → add eq (s ++ t) x ≡ s ++ (if b then t else t ++ x ∷ [])
-      by true e = add_present eq (s ++ t) x e
-      by false e = add_absent eq (s ++ t) x e ∙ append_assoc s t (x ∷ [])
+  add_behind s t x none = grind (arith, list_any-append, add_present, add_absent, append_assoc)
 
   adds_behind : (s t xs : List T) → adds eq (s ++ t) xs ≡ s ++ adds eq t (only eq xs s)
-  adds_behind s t [] = refl
-  adds_behind s t (x ∷ xs) =
-      elim (cases_Bool (is_member eq s x)) [
-        | inl e ↦
-            ap (λ m. adds eq m xs) (add_present eq (s ++ t) x (list_any-append (eq x) s t ∙ ap (λ b. b || is_member eq t x) e))
-            ∙ adds_behind s t xs
-            ∙ sym (ap (λ b. s ++ adds eq t (if not b then x ∷ only eq xs s else only eq xs s)) e)
-        | inr e ↦
-            ap (λ m. adds eq m xs) (add_behind s t x e)
-            ∙ adds_behind s (add eq t x) xs
-            ∙ sym (ap (λ b. s ++ adds eq t (if not b then x ∷ only eq xs s else only eq xs s)) e)
-      ]
+  adds_behind s t [] = grind (arith, cases_Bool, add_present, list_any-append, add_behind)
+  adds_behind s t (x ∷ xs) = grind (arith, cases_Bool, add_present, list_any-append, add_behind, (adds_behind s t xs), (adds_behind s (add eq t x) xs))
 
   -- Many additions append the new elements that are absent, each once.
   pub adds_as_append : (s xs : List T) → adds eq s xs ≡ s ++ adds eq [] (only eq xs s)
@@ -63,10 +50,4 @@ module _ {T : Type 0} (eq : T → T → Bool) where
   module _ (o : IsEquivalence eq) where
     -- After an addition, an element is present if it was, or if it is equal to the added one.
     pub is_member_add : (s : List T) (x y : T) → is_member eq (add eq s x) y ≡ (is_member eq s y || eq x y)
-    is_member_add s x y = (members_of_add eq o s (add eq s x) x refl).members y ∙ by (eq x y) (is_member eq s y)
-      where
-        by : (b c : Bool) → (if b then true else c) ≡ (c || b)
-        by true true = refl
-        by true false = refl
-        by false true = refl
-        by false false = refl
+    is_member_add s x y = grind (arith, common_steps, members_of_add)

@@ -1,6 +1,6 @@
 -- The keys of a list of pairs, as a list of elements. What changes the pairs changes the keys in the same way.
 use Rattle.std.specs.Map.{keys_of}
-use Rattle.std.proofs.Common.{◌≡◌, Bool, true, false, List, [], ◌∷◌, if◌then◌else◌, refl, sym, ap, ◌∙◌}
+use Rattle.std.proofs.Common.{arith, ◌≡◌, Bool, List, [], ◌∷◌}
 use Rattle.vecmap_base.specs.{Items.without_item, Pairs.without_key}
 use Rattle.vecmap_laws.proofs.ItemRecursion.{without_item_cons}
 use Rattle.vecmap_laws.proofs.Recursion.{without_key_cons}
@@ -10,9 +10,5 @@ pub use Rattle.vecmap_base.proofs.PairsLemmas.Keys.{index_of_is, keys_of_insert,
 module _ {K V : Type 0} (eq : K → K → Bool) where
 
   pub keys_of_without_key : (l : List (K × V)) (k : K) → keys_of (without_key eq l k) ≡ without_item eq (keys_of l) k
-  keys_of_without_key [] k = refl
-  keys_of_without_key (p ∷ ps) k = ap keys_of (without_key_cons eq p ps k) ∙ by (eq k p.0) (keys_of_without_key ps k) ∙ sym (without_item_cons eq p.0 (keys_of ps) k)
-    where
-      by : (b : Bool) → keys_of (without_key eq ps k) ≡ without_item eq (keys_of ps) k → keys_of (if b then ps else p ∷ without_key eq ps k) ≡ (if b then keys_of ps else p.0 ∷ without_item eq (keys_of ps) k)
-      by true e = refl
-      by false e = ap (λ ks. p.0 ∷ ks) e
+  keys_of_without_key [] k = grind (arith, without_key_cons, without_item_cons)
+  keys_of_without_key (p ∷ ps) k = grind (arith, without_key_cons, without_item_cons, (keys_of_without_key ps k))

@@ -1,6 +1,6 @@
 -- What a lookup finds after an insertion and after a removal.
 use Rattle.std.specs.{Cmp.IsEquivalence, List.list_any, Map.keys_of}
-use Rattle.std.proofs.Common.{◌≡◌, Bool, true, false, List, [], ◌∷◌, None, Option, Some, is_some, if◌then◌else◌, refl, sym, ap, ◌∙◌, true≢false}
+use Rattle.std.proofs.Common.{arith, ◌≡◌, Bool, true, false, List, [], ◌∷◌, None, Option, Some, is_some, if◌then◌else◌, refl, sym, ap, ◌∙◌, true≢false}
 use Rattle.vecmap_base.specs.{Pairs.HasDistinctKeys, Pairs.lookup, Pairs.lookup_by, Pairs.put, Pairs.without_by, Pairs.without_key}
 use Rattle.vecmap_base.proofs.PairsLemmas.Lookups.{lookup_by_without, updates_put}
 use Rattle.vecmap_base.proofs.PairsLemmas.{ByIndex.is_some_lookup_by, Indices.is_some_index_of}
@@ -8,12 +8,8 @@ use Rattle.vecmap_base.proofs.PairsLemmas.{ByIndex.is_some_lookup_by, Indices.is
 module _ {K V : Type 0} (test other : K → Bool) (apart : (k : K) → test k ≡ true → other k ≡ false) where
   -- A query that matches no key of a removal's finds what it found before.
   pub lookup_without_apart : (l : List (K × V)) → lookup_by other (without_by test l) ≡ lookup_by other l
-  lookup_without_apart [] = refl
-  lookup_without_apart (p ∷ ps) = by (test p.0) refl (lookup_without_apart ps)
-    where
-      by : (b : Bool) → test p.0 ≡ b → lookup_by other (without_by test ps) ≡ lookup_by other ps → lookup_by other (if b then ps else p ∷ without_by test ps) ≡ lookup_by other (p ∷ ps)
-      by true e h = sym (ap (λ b. if b then Some p.1 else lookup_by other ps) (apart p.0 e))
-      by false e h = ap (λ found. if other p.0 then Some p.1 else found) h
+  lookup_without_apart [] = grind (arith)
+  lookup_without_apart (p ∷ ps) = grind (arith, (lookup_without_apart ps))
 
 module _ {K V : Type 0} (eq : K → K → Bool) where
   -- A lookup in a list with one pair more.
@@ -30,9 +26,8 @@ module _ {K V : Type 0} (eq : K → K → Bool) where
   module _ (o : IsEquivalence eq) where
     -- Equal keys have the same value.
     pub lookup_congr : (l : List (K × V)) (x y : K) → eq x y ≡ true → lookup eq l x ≡ lookup eq l y
-    lookup_congr [] x y e = refl
-    lookup_congr (p ∷ ps) x y e =
-        look p ps x (eq y p.0) (o.congr x y p.0 e) ∙ ap (λ v. if eq y p.0 then Some p.1 else v) (lookup_congr ps x y e)
+    lookup_congr [] x y e = grind (arith, look)
+    lookup_congr (p ∷ ps) x y e = grind (arith, look, (lookup_congr ps x y e))
 
     -- After an insertion, its key has its value.
     pub lookup_put : (l : List (K × V)) (k : K) (v : V) → lookup eq (put eq l k v) k ≡ Some v

@@ -99,16 +99,7 @@ module _ {K V : Type 0} (key : K → K → Bool) (value : V → V → Bool) (k :
       ]
 
   pub lookups_from_test : (a b : List (K × V)) → agrees key value a b ≡ true → SameLookups a b
-  lookups_from_test a b e x =
-      let both = and_parts (lookups_agree key value (keys_of a) a b) (lookups_agree key value (keys_of b) a b) e in
-      elim (cases_Bool (list_any (key x) (keys_of a))) [
-        | inl h ↦ at_key (keys_of a) a b x both.0 h
-        | inr h ↦
-            elim (cases_Bool (list_any (key x) (keys_of b))) [
-              | inl i ↦ at_key (keys_of b) a b x both.1 i
-              | inr i ↦ λ t. option_eq value (lookup_absent key a x h t) (lookup_absent key b x i t)
-            ]
-      ]
+  lookups_from_test a b e x = grind (arith, and_parts, cases_Bool, at_key, lookup_absent)
 
   each_agrees : (keys : List K) (a b : List (K × V)) → SameLookups a b → lookups_agree key value keys a b ≡ true
   each_agrees [] a b h = refl
@@ -126,9 +117,7 @@ module _ {K V : Type 0} (key : K → K → Bool) (value : V → V → Bool) (k :
 
   -- The same as one equivalence: each key has equal values, or none, in both lists.
   pub equal_where_lookups_agree : (a b : List (K × V)) → HasDistinctKeys key a → HasDistinctKeys key b → IsTrue (has_same_counts key value a b) ↔ ((x : K) → IsTrue (option_eq value (lookup key a x) (lookup key b x)))
-  equal_where_lookups_agree a b d e =
-      let agreement = equality_is_agreement a b d e in
-      (λ h. lookups_from_test a b (sym agreement ∙ h), λ h. agreement ∙ test_from_lookups a b h)
+  equal_where_lookups_agree a b d e = grind (arith, equality_is_agreement, lookups_from_test, test_from_lookups)
 
   same_options : ((x y : V) → value x y ≡ true → x ≡ y) → (a b : Option V) → option_eq value a b ≡ true → a ≡ b
   same_options same None None e = refl

@@ -2,7 +2,7 @@
 -- collection, and IsMade holds of a collection that was created empty. The idea: a lookup after `put` finds the written
 -- collection at its key, and at other keys what it found before.
 use Rattle.std.specs.{Cmp.IsEquivalence, Option.UnwrapsOrElse, Option.option_map_or}
-use Rattle.std.proofs.Common.{◌≡◌, Bool, true, false, List, [], None, Option, Some, sym, ap, subst, ◌∙◌, inl, inr}
+use Rattle.std.proofs.Common.{arith, ◌≡◌, Bool, true, false, List, [], ap, subst, ◌∙◌}
 use Rattle.std.proofs.lemmas.Bool.{cases_Bool}
 use Rattle.vecmap_base.specs.Pairs.{index_of, lookup, put}
 use Rattle.vecmap_map.specs.{Contents.Contents, Entry.entries_with, Entry.entry_key, Entry.entry_map, Entry.entry_index_of, Entry.entry_value}
@@ -18,11 +18,7 @@ module _ {K W A : Type 0} (eq : K → K → Bool) (inside : W → List A) where
   module _ (IsMade : W → Type 0) (empty : (w : W) → IsMade w → inside w ≡ []) where
     -- The collection of a key, or the empty one that was created for it, has the list of the key.
     pub inner_made : (l : List (K × W)) (k : K) (w : W) → UnwrapsOrElse (lookup eq l k) IsMade w → inside w ≡ inner l k
-    inner_made l k w h = by (lookup eq l k) h
-      where
-        by : (found : Option W) → UnwrapsOrElse found IsMade w → inside w ≡ option_map_or inside found []
-        by None h = empty w h
-        by (Some x) h = ap inside h
+    inner_made l k w h = grind (arith)
 
   module _ (o : IsEquivalence eq) where
     -- Equal keys have the same list.
@@ -45,11 +41,7 @@ module _ {K W A : Type 0} (eq : K → K → Bool) (inside : W → List A) where
 
       -- A collection that is only created empty changes no list.
       pub inner_unchanged : (l : List (K × W)) (k : K) (w : W) → UnwrapsOrElse (lookup eq l k) IsMade w → (q : K) → inner (put eq l k w) q ≡ inner l q
-      inner_unchanged l k w h q =
-          elim (cases_Bool (eq k q)) [
-            | inl e ↦ sym (inner_congr (put eq l k w) k q e) ∙ inner_put l k w ∙ inner_made IsMade empty l k w h ∙ inner_congr l k q e
-            | inr e ↦ inner_put_other l k w q e
-          ]
+      inner_unchanged l k w h q = grind (arith, cases_Bool, inner_congr, inner_put, inner_made, inner_put_other)
 
     -- The same through the entry e of the key k: l is the list that it leaves.
     pub inner_entered_other : (l : List (K × W)) (m : Contents K W) (k : K) (e : Entry K W) (w : W) → l ≡ entries_with e w → entry_map e ≡ m → entry_key e ≡ k → entry_index_of e ≡ index_of eq m.entries k → (q : K) → eq k q ≡ false → inner l q ≡ inner m.entries q

@@ -1,6 +1,7 @@
 -- What a removal, an insertion, a write and a placement leave of the other pairs. The idea: the list without the key is
 -- the same before and after, and a placement is an insertion into that list.
-use Rattle.std.proofs.Common.{◌≡◌, ◌<◌, ◌≤◌, ℕ, Bool, true, false, List, [], ◌∷◌, ◌++◌, None, Option, Some, ap, arith, if◌then◌else◌, insert, length, min, refl, remove, set, slice_get, suc, sym, zero, ◌∙◌, ◌-◌}
+use Rattle.std.proofs.lemmas.Grind.{common_steps}
+use Rattle.std.proofs.Common.{◌≡◌, ◌≤◌, ℕ, Bool, true, false, List, [], ◌∷◌, ◌++◌, None, Option, Some, ap, arith, if◌then◌else◌, insert, length, min, refl, remove, set, slice_get, suc, sym, zero, ◌∙◌}
 use Rattle.std.proofs.lemmas.{List.drop_min, List.set-get_or, List.take_min, List.Edits.length-remove, List.Quantifiers.position-Some, Option.get_or_from_slice_get, Option.slice_get_within}
 use Rattle.std.specs.{Cmp.IsEquivalence, Map.set_value, Option.option_map_or}
 use Rattle.vecmap_base.proofs.PairsLemmas.{ByIndex.index_by_is, ByIndex.without_by_index, Puts.put_absent}
@@ -17,9 +18,7 @@ insert_min : {X : Type 0} (xs : List X) (i : ℕ) (x : X) → insert xs (min i (
 insert_min xs i x = rw (take_min i xs, drop_min i xs) refl
 
 insert_past : {X : Type 0} (xs : List X) (i n : ℕ) (x : X) → length xs ≤ n → insert xs (min i n) x ≡ insert xs i x
-insert_past xs i n x h =
-    let twice : min (min i n) (length xs) ≡ min i (length xs) = omega (arith, h) in
-    sym (insert_min xs (min i n) x) ∙ ap (λ j. insert xs j x) twice ∙ insert_min xs i x
+insert_past xs i n x h = grind (arith, common_steps, insert_min)
 
 module _ {K V : Type 0} (eq : K → K → Bool) where
   -- The removal of an absent key changes nothing.
@@ -34,14 +33,7 @@ module _ {K V : Type 0} (eq : K → K → Bool) where
 
   -- A placement is an insertion at the index into the list without the key.
   pub put_at_is_insert : (l : List (K × V)) (i : ℕ) (k : K) (v : V) → put_at eq l i k v ≡ insert (without_key eq l k) i (k, v)
-  put_at_is_insert l i k v = by (index_of eq l k) refl
-    where
-      by : (found : Option ℕ) → index_of eq l k ≡ found → put_at eq l i k v ≡ insert (without_key eq l k) i (k, v)
-      by None e = put_at_absent eq l i k v e ∙ ap (λ m. insert m i (k, v)) (sym (without_absent l k e))
-      by (Some j) e =
-          let within : j < length l = (position-Some (λ p. eq k p.0) l j (k, v) (sym (index_by_is (eq k) l) ∙ e)).0 in
-          let shorter : length l - 1 ≡ length (remove l j) = omega (arith, length-remove l j within) in
-          put_at_present eq l i k v j e ∙ ap (λ n. insert (remove l j) (min i n) (k, v)) shorter ∙ insert_min (remove l j) i (k, v) ∙ ap (λ m. insert m i (k, v)) (sym (without_key_at eq l k j e))
+  put_at_is_insert l i k v = grind (arith, common_steps, put_at_absent, without_absent, position-Some, index_by_is, length-remove, put_at_present, insert_min, without_key_at)
 
   shorter_without : (l : List (K × V)) (k : K) → length (without_key eq l k) ≤ length l
   shorter_without l k = by (index_of eq l k) refl
@@ -72,12 +64,8 @@ module _ {K V : Type 0} (eq : K → K → Bool) where
 
     -- An insertion leaves the pairs of the other keys.
     pub without_put : (l : List (K × V)) (k : K) (v : V) → without_key eq (put eq l k v) k ≡ without_key eq l k
-    without_put [] k v = own_first [] k v
-    without_put (p ∷ ps) k v = by (eq k p.0) refl (without_put ps k v)
-      where
-        by : (b : Bool) → eq k p.0 ≡ b → without_key eq (put eq ps k v) k ≡ without_key eq ps k → without_key eq (if b then (p.0, v) ∷ ps else p ∷ put eq ps k v) k ≡ (if b then ps else p ∷ without_key eq ps k)
-        by true e more = ap (λ b. if b then ps else (p.0, v) ∷ without_key eq ps k) e
-        by false e more = ap (λ b. if b then put eq ps k v else p ∷ without_key eq (put eq ps k v) k) e ∙ ap (λ m. p ∷ m) more
+    without_put [] k v = grind (arith, own_first)
+    without_put (p ∷ ps) k v = grind (arith, own_first, (without_put ps k v))
 
     -- So does a write of the value of the key.
     pub without_written : (m : Contents K V) (k : K) (v : V) → without_key eq (with_value_of eq m k v).entries k ≡ without_key eq m.entries k

@@ -1,6 +1,7 @@
 -- What lookups find in a list of two parts, and the value and the index of a key after many insertions.
+use Rattle.std.proofs.lemmas.Grind.{common_steps}
 use Rattle.std.specs.{Cmp.IsEquivalence, Option.option_or, Map.keys_of}
-use Rattle.std.proofs.Common.{◌≡◌, ℕ, Bool, true, false, List, [], ◌∷◌, ◌++◌, Some, if◌then◌else◌, position, refl, reverse, sym, ap, ◌∙◌}
+use Rattle.std.proofs.Common.{arith, ◌≡◌, ℕ, Bool, List, [], ◌∷◌, ◌++◌, Some, position, reverse, sym, ap, ◌∙◌}
 use Rattle.std.proofs.lemmas.{List.reverse-append}
 use Rattle.vecmap_base.specs.{Items.adds, Items.item_index, Pairs.index_of, Pairs.lookup, Pairs.put, Pairs.puts}
 use Rattle.vecmap_base.proofs.PairsLemmas.Keys.{index_of_is, keys_of_puts}
@@ -23,21 +24,12 @@ module _ {K V : Type 0} (eq : K → K → Bool) where
 
   module _ (o : IsEquivalence eq) where
     one_put : (l : List (K × V)) (p : K × V) (q : K) → lookup eq (put eq l p.0 p.1) q ≡ option_or (lookup eq (p ∷ []) q) (lookup eq l q)
-    one_put l p q = lookup_put_any eq o l p.0 p.1 q ∙ by (eq p.0 q) refl
-      where
-        by : (b : Bool) → eq p.0 q ≡ b → (if b then Some p.1 else lookup eq l q) ≡ option_or (lookup eq (p ∷ []) q) (lookup eq l q)
-        by true e = sym (ap (λ found. option_or found (lookup eq l q)) (look eq p [] q true (o.symm q p.0 ∙ e)))
-        by false e = sym (ap (λ found. option_or found (lookup eq l q)) (look eq p [] q false (o.symm q p.0 ∙ e)))
+    one_put l p q = grind (arith, lookup_put_any, look)
 
     -- After insertions, a key has the last value that they give it, or else its old one.
     pub lookup_puts_last : (l pairs : List (K × V)) (q : K) → lookup eq (puts eq l pairs) q ≡ option_or (lookup eq (reverse pairs) q) (lookup eq l q)
-    lookup_puts_last l [] q = refl
-    lookup_puts_last l (p ∷ ps) q =
-        lookup_puts_last (put eq l p.0 p.1) ps q
-        ∙ ap (λ found. option_or (lookup eq (reverse ps) q) found) (one_put l p q)
-        ∙ sym (option_or_assoc (lookup eq (reverse ps) q) (lookup eq (p ∷ []) q) (lookup eq l q))
-        ∙ ap (λ found. option_or found (lookup eq l q)) (sym (lookup_append (reverse ps) (p ∷ []) q))
-        ∙ ap (λ m. option_or (lookup eq m q) (lookup eq l q)) (sym (reverse-append (p ∷ []) ps))
+    lookup_puts_last l [] q = grind (arith, common_steps, one_put, option_or_assoc, lookup_append, reverse-append)
+    lookup_puts_last l (p ∷ ps) q = grind (arith, common_steps, one_put, option_or_assoc, lookup_append, reverse-append, (lookup_puts_last (put eq l p.0 p.1) ps q))
 
     -- The same from the empty list.
     pub lookup_made_last : (pairs : List (K × V)) (q : K) → lookup eq (puts eq [] pairs) q ≡ lookup eq (reverse pairs) q

@@ -1,6 +1,6 @@
 -- What insertions make of a list, one at a time and many in order.
 use Rattle.std.specs.{Cmp.IsEquivalence, Option.option_map_or}
-use Rattle.std.proofs.Common.{◌≡◌, ℕ, ◌-◌, Bool, List, ◌++◌, None, Some, insert, length, min, remove, drop, take, ap, ◌∙◌, sym, subst}
+use Rattle.std.proofs.Common.{arith, ◌≡◌, ℕ, ◌-◌, Bool, List, ◌++◌, None, Some, insert, length, min, remove, drop, take, ap}
 use Rattle.std.proofs.lemmas.{List.take-append-drop, List.Sums.fold-append}
 use Rattle.vecmap_base.specs.Pairs.{HasDistinctKeys, index_of, put, put_at, puts}
 pub use Rattle.vecmap_base.proofs.PairsLemmas.Parts.{puts_apart, puts_distinct}
@@ -22,6 +22,4 @@ module _ {K V : Type 0} (eq : K → K → Bool) where
   module _ (o : IsEquivalence eq) where
     -- If a list of distinct keys is split, the insertion of the second part into the first restores it.
     pub puts_restore : (l : List (K × V)) (at : ℕ) → HasDistinctKeys eq l → puts eq (take at l) (drop at l) ≡ l
-    puts_restore l at d =
-        let whole : take at l ++ drop at l ≡ l = take-append-drop at l in
-        puts_apart eq o (take at l) (drop at l) (subst (HasDistinctKeys eq) (sym whole) d) ∙ whole
+    puts_restore l at d = grind (arith, take-append-drop, puts_apart)

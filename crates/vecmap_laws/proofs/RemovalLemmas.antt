@@ -46,15 +46,7 @@ module _ {K V : Type 0} (eq : K → K → Bool) (o : IsEquivalence eq) where
 
   -- What a query finds has the same `f` in two lists, if what each key that it matches finds has.
   pub query_finds_same : {X : Type 0} (f : Option V → X) (test : K → Bool) → IsKeyTest eq test → (l m : List (K × V)) → ((q : K) → IsTrue (test q) → f (lookup eq m q) ≡ f (lookup eq l q)) → f (lookup_by test m) ≡ f (lookup_by test l)
-  query_finds_same f test respects l m alike = by (lookup_by test m) (lookup_by test l) refl refl
-    where
-      matched : (k : K) → IsTrue (test k) → f (lookup_by test m) ≡ f (lookup_by test l)
-      matched k h = ap f (lookup_by_query eq o test respects m k h) ∙ alike k h ∙ sym (ap f (lookup_by_query eq o test respects l k h))
-
-      by : (x y : Option V) → lookup_by test m ≡ x → lookup_by test l ≡ y → f (lookup_by test m) ≡ f (lookup_by test l)
-      by (Some v) y e g = let p = pair_of_value test m v e in matched p.0.0 p.2
-      by None (Some w) e g = let p = pair_of_value test l w g in matched p.0.0 p.2
-      by None None e g = ap f (e ∙ sym g)
+  query_finds_same f test respects l m alike = grind (arith, lookup_by_query, pair_of_value)
 
 -- A removal by index, which leaves all other items.
 module _ {X : Type 0} (takes : List X → ℕ → List X) (leaves : (xs : List X) (i : ℕ) (x : X) → slice_get xs i ≡ Some x → IsPermutation xs (x ∷ takes xs i)) where
@@ -62,11 +54,7 @@ module _ {X : Type 0} (takes : List X → ℕ → List X) (leaves : (xs : List X
   length_by_index xs i x at = let e : length (x ∷ takes xs i) ≡ length xs = length_permutation xs (x ∷ takes xs i) (leaves xs i x at) in omega (arith, e)
 
   pub length_by_test : (p : X → Bool) (xs : List X) → length (option_map_or (takes xs) (position p xs) xs) ≡ (if is_some (position p xs) then length xs - 1 else length xs)
-  length_by_test p xs = by (position p xs) refl
-    where
-      by : (found : Option ℕ) → position p xs ≡ found → length (option_map_or (takes xs) found xs) ≡ (if is_some found then length xs - 1 else length xs)
-      by None e = refl
-      by (Some i) e = let at = passing_at p xs i e in length_by_index xs i at.0 at.1
+  length_by_test p xs = grind (arith, passing_at, length_by_index)
 
   module _ (eq : X → X → Bool) (o : IsEquivalence eq) where
     pub is_member_by_index : (s : List X) → IsDistinct eq s → (i : ℕ) (x : X) → slice_get s i ≡ Some x → (y : X) → is_member eq (takes s i) y ≡ (is_member eq s y && not (eq x y))

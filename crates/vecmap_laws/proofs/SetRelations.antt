@@ -26,9 +26,7 @@ module _ {T : Type 0} (eq : T → T → Bool) (o : IsEquivalence eq) where
   union_turned a b = same_items eq o (a ++ only eq b a) (b ++ only eq a b) (λ x. is_member_union a b x ∙ or_comm (is_member eq a x) (is_member eq b x) ∙ sym (is_member_union b a x))
 
   pub symmetric_difference_turned : (a b : List T) → has_same_items eq (only eq a b ++ only eq b a) (only eq b a ++ only eq a b) ≡ true
-  symmetric_difference_turned a b =
-      same_items eq o (only eq a b ++ only eq b a) (only eq b a ++ only eq a b) (λ x.
-      list_any-append (eq x) (only eq a b) (only eq b a) ∙ or_comm (is_member eq (only eq a b) x) (is_member eq (only eq b a) x) ∙ sym (list_any-append (eq x) (only eq b a) (only eq a b)))
+  symmetric_difference_turned a b = grind (arith, same_items, list_any-append, or_comm)
 
   pub length_both_turned : (a b : List T) → IsDistinct eq a → IsDistinct eq b → length (both eq a b) ≡ length (both eq b a)
   length_both_turned a b d e =

@@ -1,6 +1,6 @@
 -- Lists that ascend by a key: a binary search agrees with a search in order, an insertion where it ends keeps the
 -- order, and a stable sort of such a list changes nothing.
-use Rattle.std.proofs.Common.{arith, ◌≡◌, ◌+◌, ◌-◌, ◌<◌, ◌≤◌, ℕ, Bool, true, false, ◌&&◌, List, ap, get_or, inl, inr, insert, length, nat_lt, not, refl, sym, true≢false, ◌∙◌}
+use Rattle.std.proofs.Common.{arith, ◌≡◌, ◌+◌, ◌-◌, ◌<◌, ◌≤◌, ℕ, Bool, true, List, ap, get_or, inl, inr, insert, length, nat_lt, ◌∙◌}
 use Rattle.std.proofs.lemmas.{Bool.cases_Bool, Bool.ltb-false, Bool.ltb-true}
 use Rattle.std.proofs.lemmas.List.Edits.{get_or-insert_above, get_or-insert_at, get_or-insert_below, length-insert}
 use Rattle.std.specs.{Cmp.IsStrictWeakOrder, Cmp.IsTotalOrder}
@@ -55,8 +55,4 @@ module _ {X K : Type 0} (key : X → K) (cmp : K → K → Ordering) (o : IsTota
 module _ {X : Type 0} (lt : X → X → Bool) (w : IsStrictWeakOrder lt) where
 
   own : (x : X) → ties lt x x ≡ true
-  own x = by (lt x x) refl
-    where
-      by : (b : Bool) → lt x x ≡ b → (not b && not b) ≡ true
-      by true e = absurd (true≢false (sym e ∙ w.one_way x x e))
-      by false e = refl
+  own x = grind (arith)

@@ -1,5 +1,5 @@
 -- What texts find after an insertion of a text of which the first value wins.
-use Rattle.std.proofs.Common.{◌≡◌, ℕ, Bool, true, false, List, None, Some, String, ap, bytes_eq, if◌then◌else◌, refl, string_bytes, string_eq, sym, ◌∙◌}
+use Rattle.std.proofs.Common.{rules, ◌≡◌, ℕ, true, List, None, Some, String, ap, bytes_eq, if◌then◌else◌, string_bytes, string_eq, sym, ◌∙◌}
 use Rattle.std.proofs.lemmas.Slice.Eq.{bytes_eq-Decides}
 use Rattle.std.specs.{Cmp.Lexicographic.nat_list_eq_equiv, Option.option_or}
 use Rattle.std.specs.declared.alloc.Global.{Global}
@@ -15,11 +15,7 @@ same_texts text other = (bytes_eq-Decides text other).0
 module _ {V : Type 0} (l : List (String Global × V)) (name text : List ℕ) (v : V) where
   -- If the name is present, nothing changes.
   pub first_text_stays : (w : V) → lookup_by (has_text name) l ≡ Some w → lookup_by (has_text text) l ≡ option_or (lookup_by (has_text text) l) (if bytes_eq name text then Some v else None)
-  first_text_stays w found = by (bytes_eq name text) refl
-    where
-      by : (b : Bool) → bytes_eq name text ≡ b → lookup_by (has_text text) l ≡ option_or (lookup_by (has_text text) l) (if b then Some v else None)
-      by true e = let there : lookup_by (has_text text) l ≡ Some w = ap (λ t. lookup_by (has_text t) l) (sym (same_texts name text e)) ∙ found in rw there refl
-      by false e = sym (option_or_none (lookup_by (has_text text) l))
+  first_text_stays w found = search (rules, bytes_eq, same_texts, option_or_none)
 
   -- If it is new, the text of the name finds the value.
   pub first_text_added : (key : String Global) → string_bytes key ≡ name → lookup_by (has_text name) l ≡ None → lookup_by (has_text text) (put string_eq l key v) ≡ option_or (lookup_by (has_text text) l) (if bytes_eq name text then Some v else None)

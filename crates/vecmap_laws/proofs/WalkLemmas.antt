@@ -1,5 +1,5 @@
 -- Iterators that are seen as the list of what they have left: what calls of `next` and `next_back` return.
-use Rattle.std.proofs.Common.{◌≡◌, ◌-◌, List, [], ◌∷◌, ◌++◌, Option, None, Some, ap, sym, subst, ◌∙◌, drop, take, length, length-append, map, arith, refl}
+use Rattle.std.proofs.Common.{◌≡◌, ◌-◌, List, [], ◌∷◌, ◌++◌, Option, None, Some, ap, sym, drop, take, length, length-append, map, arith, refl}
 use Rattle.std.specs.{Iterator.YieldsFirstBy, Iterator.YieldsLastBy, List.slice_get}
 use Rattle.std.specs.Option.{option_map}
 use Rattle.vecmap_laws.specs.Pulls.{End, Pulls, PullsBy, back, front}
@@ -36,12 +36,6 @@ module _ {S A T : Type 0} (shows : A → T) (rest : S → List T) (next next_bac
 
   -- Any mixture of calls returns what the list has.
   pub pulls_by : (s : S) (ends : List End) (items : List (Option A)) (t : S) → PullsBy next next_back s ends items t → Pulls (rest s) ends (map (option_map shows) items) (rest t)
-  pulls_by s [] items t h = (ap (map (option_map shows)) h.0, ap rest h.1)
-  pulls_by s (front ∷ ends) items t h =
-      let e = front_pull s h.1 h.0 (first s h.0 h.1 h.3) in
-      let more = map (option_map shows) h.2 in
-      (more, ap (map (option_map shows)) h.4 ∙ ap (λ o. o ∷ more) e.0, subst (λ l. Pulls l ends more (rest t)) e.1 (pulls_by h.1 ends h.2 t h.5))
-  pulls_by s (back ∷ ends) items t h =
-      let e = back_pull s h.1 h.0 (last s h.0 h.1 h.3) in
-      let more = map (option_map shows) h.2 in
-      (more, ap (map (option_map shows)) h.4 ∙ ap (λ o. o ∷ more) e.0, subst (λ l. Pulls l ends more (rest t)) e.1 (pulls_by h.1 ends h.2 t h.5))
+  pulls_by s [] items t h = grind (arith, front_pull, back_pull)
+  pulls_by s (front ∷ ends) items t h = grind (arith, front_pull, back_pull, (pulls_by h.1 ends h.2 t h.5))
+  pulls_by s (back ∷ ends) items t h = grind (arith, front_pull, back_pull, (pulls_by h.1 ends h.2 t h.5))

@@ -1,7 +1,7 @@
 -- A write of the value that a key or a query finds, and what lookups find after it. The idea: the write is `put` of any
 -- key that the query matches, so the lemmas on `put` hold.
 use Rattle.std.specs.Option.{option_map_or}
-use Rattle.std.proofs.Common.{◌≡◌, ℕ, Bool, List, [], ◌∷◌, ◌++◌, None, Option, Some, IsSome, true, ap, refl, sym, true≢false, ◌∙◌, false, IsTrue, bytes_eq, string_bytes, string_eq, String, subst, if◌then◌else◌}
+use Rattle.std.proofs.Common.{arith, ◌≡◌, ℕ, Bool, List, [], ◌∷◌, None, Some, IsSome, true, ap, refl, sym, ◌∙◌, false, IsTrue, bytes_eq, string_bytes, string_eq, String, subst, if◌then◌else◌}
 use Rattle.vecmap_base.specs.Pairs.{index_of, put, with_value, has_text, index_by, lookup, lookup_by}
 use Rattle.vecmap_map.specs.Contents.{Contents, with_entries, with_value_of, with_value_by}
 use Rattle.std.specs.{Cmp.IsEquivalence, Cmp.Lexicographic.nat_list_eq_equiv, declared.alloc.Global.Global, Map.IsKeyTest, Map.keys_of, Map.set_value, Option.option_map_or}
@@ -15,11 +15,7 @@ use Rattle.vecmap_base.proofs.PairsLemmas.{ByIndex.is_some_lookup_by, Updates.up
 module _ {K V : Type 0} (eq : K → K → Bool) where
   -- A write of the value of a key that is present is `put`.
   pub with_value_of_is_put : (m : Contents K V) (k : K) (v : V) → IsSome (index_of eq m.entries k) → (with_value_of eq m k v).entries ≡ put eq m.entries k v
-  with_value_of_is_put m k v h = set_value_by_index (eq k) m.entries v ∙ by (index_of eq m.entries k) h ∙ sym (put_by_index eq m.entries k v)
-    where
-      by : (found : Option ℕ) → IsSome found → option_map_or (λ i. with_value m.entries i v) found m.entries ≡ option_map_or (λ i. with_value m.entries i v) found (m.entries ++ (k, v) ∷ [])
-      by None h = absurd (true≢false (sym h))
-      by (Some i) h = refl
+  with_value_of_is_put m k v h = grind (arith, set_value_by_index, put_by_index)
 
 -- A write does not change the keys.
 pub keys_of_with_value_by : {K V : Type 0} (test : K → Bool) (m : Contents K V) (v : V) → keys_of (with_value_by test m v).entries ≡ keys_of m.entries

@@ -1,5 +1,5 @@
 -- Insertions that combine the value of a key with the value that it had. `eq` is the `==` of keys.
-use Rattle.std.specs.Prelude.{Bool, List, None, Option, Some, fold}
+use Rattle.std.specs.Prelude.{Bool, List, None, Option, Some}
 use Rattle.std.specs.Option.{option_map_or}
 use Rattle.vecmap_base.specs.Pairs.{lookup, put}
 
