@@ -1,11 +1,11 @@
 //! The macros `vecmap!` and `vecset!`, of three pairs or elements, and the functions that they call.
+use crate::map::Map;
+use crate::set::Set;
 use std::alloc::{AllocError, Global};
 use vecmap::macros::{add_item, put_pair};
 use vecmap::{vecmap, vecset};
 use vecmap_script_base::listed::Pair;
 use vecmap_script_base::{Call, Item, Out, Outcome};
-use vecmap_script_map::Map;
-use vecmap_script_set::Set;
 
 /// `put_pair 1a:10`, or `vecmap! 1a:10 2b:20 3c:30`.
 pub fn of_map(map: &mut Map, out: &mut Out, call: Call) -> Option<Outcome> {

@@ -1,11 +1,11 @@
 //! Runs of commands, as in `run Insert 1a:1; Get 1 -> Value(None); Value(Some(1))`.
+use crate::map::Map;
+use crate::set::Set;
 use std::alloc::AllocError;
 use std::fmt::{Debug, Write};
 use vecmap::{MapCommand, SetCommand, VecMap, VecSet, run, run_set};
 use vecmap_script_base::listed::Pair;
 use vecmap_script_base::{Item, Out, Outcome, again, first_word};
-use vecmap_script_map::Map;
-use vecmap_script_set::Set;
 
 /// Runs the commands on a map.
 pub fn on_map(map: &mut Map, out: &mut Out, words: &str) -> Option<Outcome> {

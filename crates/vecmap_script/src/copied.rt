@@ -3,7 +3,7 @@
 ghost use Rattle.std.specs.Prelude.{nat_eq};
 ghost use Rattle.std.specs.Cmp.{nat_eq_equiv, partial_equiv_from_equiv};
 
-use crate::Set;
+use crate::set::Set;
 use std::alloc::AllocError;
 use vecmap_script_base::given::Hinted;
 use vecmap_script_base::words::number_after;
