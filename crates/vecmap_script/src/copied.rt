@@ -42,7 +42,8 @@ pub fn extend(set: &mut Set, out: &mut Out, call: Call) -> Option<Outcome> {
     let lent = Hinted::lent(out, &items, hint)?;
     let extended = match call.name {
         "extend_copied" => plain.extend_copied(lent),
-        _ => Extend::extend(&mut plain, lent),
+        "Extend_copied" => Extend::extend(&mut plain, lent),
+        _ => return None,
     };
     *set = again!(VecSet::with_capacity(out.alloc, plain.capacity()));
     for item in &plain {

@@ -72,7 +72,7 @@ fn owning(map: &mut Map, out: &mut Out, name: &str, pulls: Pulls) -> Option<Outc
         "into_keys" => pull_twice(out, copy(map, out)?.into_keys(), pulls, |it| it.clone()),
         "into_values" => pull_twice(out, copy(map, out)?.into_values(), pulls, |it| it.clone()),
         "drain" => drains!(drained_map, map, out, pulls),
-        _ => Outcome::Unknown,
+        _ => return None,
     })
 }
 
@@ -101,6 +101,6 @@ fn lazy(set: &Set, other: &Set, out: &mut Out, name: &str, pulls: Pulls) -> Opti
             pull_lazy(out, set.symmetric_difference(other), pulls, |it| it.clone())
         }
         "union" => pull_lazy(out, set.union(other), pulls, |it| it.clone()),
-        _ => Some(Outcome::Unknown),
+        _ => None,
     }
 }

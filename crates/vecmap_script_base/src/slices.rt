@@ -8,7 +8,7 @@ use vecmap_base::{
     keys_distinct,
 };
 
-pub fn make(out: &mut Out, call: Call) -> Option<Outcome> {
+pub fn gather(out: &mut Out, call: Call) -> Option<Outcome> {
     Some(match call.name {
         "keys_distinct" => out.show(keys_distinct(&out.read_list::<Pair>(call.args)?)),
         "items_distinct" => out.show(items_distinct(&out.read_list::<Item>(call.args)?)),
@@ -24,12 +24,12 @@ pub fn make(out: &mut Out, call: Call) -> Option<Outcome> {
             out.add((kept, steps.count()));
             out.show(items.as_slice())
         }
-        _ => return search(out, call),
+        _ => return None,
     })
 }
 
-// Searches a list for the first word. A reference is as short as a number, and is searched for in another way.
-fn search(out: &mut Out, call: Call) -> Option<Outcome> {
+/// Searches a list for the first word. A reference is as short as a number, and is searched for in another way.
+pub fn search(out: &mut Out, call: Call) -> Option<Outcome> {
     let (first, words) = call.split();
     Some(match call.name {
         "find" => {
@@ -44,7 +44,7 @@ fn search(out: &mut Out, call: Call) -> Option<Outcome> {
             let items: Vec<Item> = out.read_list(words)?;
             by_reference(out, call.name, &items, &Item::query(first)?)?
         }
-        _ => Outcome::Unknown,
+        _ => return None,
     })
 }
 
@@ -53,10 +53,11 @@ fn by_reference(out: &mut Out, name: &str, items: &[Item], query: &Item) -> Opti
     Some(match name {
         "find_item_by_reference" => out.show(find_item(&references, &query)),
         "contains_by_reference" => out.show(contains_item(&references, &query)),
-        _ => {
+        "find_by_reference" => {
             let pairs = again!(pairs_of(out.alloc, items));
             out.show(find(&pairs, &query))
         }
+        _ => return None,
     })
 }
 
