@@ -1,10 +1,10 @@
 -- Two maps of maps are equal exactly if each section and name have the same text in both.
+use Rattle.std.proofs.Common.{rules, sym, ap, ◌∙◌, arith, true≢false}
 use Rattle.std.specs.Prelude.{◌≡◌, ◌↔◌, ℕ, Bool, true, List, [], ◌∷◌, None, Option, Some, String, IsTrue, option_map, string_bytes, string_eq, refl}
 use Rattle.std.specs.Cmp.{IsEquivalence, on_equiv}
 use Rattle.std.specs.Option.{option_eq}
 use Rattle.std.specs.Str.{str_eq_ignore_ascii_case}
 use Rattle.std.specs.declared.alloc.Global.{Global}
-use Rattle.std.proofs.Common.{sym, ap, ◌∙◌, arith, true≢false}
 use Rattle.std.proofs.lemmas.Slice.Eq.{bytes_eq-Decides}
 use Rattle.vecmap.specs.Equality.{has_same_counts}
 use Rattle.vecmap.specs.Pairs.{lookup}
@@ -27,18 +27,13 @@ same_stored_laws = on_equiv (λ m. m.entries) (map_equality_laws str_eq_ignore_a
 
 -- Equal strings have equal bytes.
 same_text_options : (o p : Option (String Global)) → IsTrue (option_eq string_eq o p) ↔ (option_map string_bytes o ≡ option_map string_bytes p)
-same_text_options None None = (λ _. refl, λ _. refl)
-same_text_options None (Some w) = (λ h. absurd (true≢false (sym h)), λ h. absurd (cc))
-same_text_options (Some v) None = (λ h. absurd (true≢false (sym h)), λ h. absurd (cc))
-same_text_options (Some v) (Some w) =
-    let d = bytes_eq-Decides (string_bytes v) (string_bytes w) in
-    (λ h. ap (λ b. Some b) (d.0 h), λ h. d.1 (cc))
+same_text_options None None = grind (arith, bytes_eq-Decides)
+same_text_options None (Some w) = grind (arith, bytes_eq-Decides)
+same_text_options (Some v) None = grind (arith, bytes_eq-Decides)
+same_text_options (Some v) (Some w) = grind (arith, bytes_eq-Decides)
 
 sections_agree : (a b : Section) → IsSection a → IsSection b → IsTrue (same_section a b) ↔ ((n : List ℕ) → text_in a n ≡ text_in b n)
-sections_agree a b s t =
-    let e = equal_where_lookups_agree str_eq_ignore_ascii_case string_eq ignoring_case_equiv string_equality a b s.distinct t.distinct in
-    let texts = λ (n : List ℕ). same_text_options (lookup str_eq_ignore_ascii_case a n) (lookup str_eq_ignore_ascii_case b n) in
-    (λ h n. (texts n).0 (e.0 h n), λ h. e.1 (λ n. (texts n).1 (h n)))
+sections_agree a b s t = search (rules, equal_where_lookups_agree, string_equality, same_text_options)
 
 -- A section has some text.
 some_text : (a : Section) → IsSection a → (n : List ℕ) × (t : List ℕ) × (text_in a n ≡ Some t)

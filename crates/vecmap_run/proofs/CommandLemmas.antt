@@ -48,10 +48,7 @@ HasNoSpace word = (i : ℕ) → i < length word → get_or word i 0 ≢ 32
 
 -- A test that all bytes pass holds at each index.
 all_at : (p : ℕ → Bool) (word : List ℕ) → list_all p word ≡ true → (i : ℕ) → i < length word → p (get_or word i 0) ≡ true
-all_at p word all i inside = elim (p (get_or word i 0)) as (λ b. p (get_or word i 0) ≡ b → b ≡ true) [
-  | true ↦ λ _. refl
-  | false ↦ λ fails. cc (list_all_at p word i 0 inside fails)
-] refl
+all_at p word all i inside = grind (arith, list_all_at)
 
 -- A word whose bytes pass a test that the space fails has no space.
 no_space : (p : ℕ → Bool) → p 32 ≡ false → (word : List ℕ) → list_all p word ≡ true → HasNoSpace word
@@ -186,13 +183,7 @@ says_ascii other line (text, whole, arguments) = rw whole (spaced_ascii (name_of
 -- The contract of `parse_text` for a line with a space follows from the contract of `with_arguments` for its two parts.
 module _ (line name text : List ℕ) (o : Option Command) where
   pub said_whole : line ≡ name ++ 32 ∷ text → IfSome o (λ said. (name ≡ name_of said) × HasArguments said text) → IfSome o (λ said. Says said line)
-  said_whole whole = elim o as (λ o. IfSome o (λ said. (name ≡ name_of said) × HasArguments said text) → IfSome o (λ said. Says said line)) [
-    | None ↦ λ _. tt
-    | Some said ↦ λ (same, arguments). says_parts said line name text whole same arguments
-  ]
+  said_whole whole = grind (arith, says_parts)
 
   pub unsaid_whole : ((said : Command) → Says said line → (name ≡ name_of said) × HasArguments said text) → IfNone o ((said : Command) → name ≡ name_of said → HasArguments said text → ⊥) → IfNone o ((said : Command) → Says said line → ⊥)
-  unsaid_whole cut = elim o as (λ o. IfNone o ((said : Command) → name ≡ name_of said → HasArguments said text → ⊥) → IfNone o ((said : Command) → Says said line → ⊥)) [
-    | None ↦ λ none said says. let (same, arguments) = cut said says in none said same arguments
-    | Some _ ↦ λ _. tt
-  ]
+  unsaid_whole cut = grind (arith)

@@ -4,7 +4,7 @@ use Rattle.std.proofs.Common.{◌≡◌, ◌≢◌, ◌==◌, ◌∙◌, ℕ, Al
 use Rattle.std.proofs.KnownBytes.{Appends-nil, Appends-trans, Consumes-kept, Consumes-trans}
 use Rattle.std.proofs.Math.Seq.{take-append_seam}
 use Rattle.std.proofs.lemmas.Bool.Decides.{nat_tests}
-use Rattle.std.proofs.lemmas.Grind.{flat_map-append}
+use Rattle.std.proofs.lemmas.Grind.{common_steps, flat_map-append}
 use Rattle.std.proofs.lemmas.List.Elements.{All-head, All-nil, All-push, All-tail, All-weaker}
 use Rattle.std.proofs.lemmas.List.Splits.{slice_split_at, slice_split_none}
 use Rattle.std.specs.Io.KnownBytes.{Appends, Consumes, Keeps}
@@ -22,19 +22,11 @@ Answers-more old mid new (l ∷ lines) line text first (front, rest, next, whole
 
 -- One more byte that is not a line break extends the rest.
 Splits-more : (input : List ℕ) (lines : List (List ℕ)) (rest : List ℕ) (byte : ℕ) → Splits input lines rest → byte ≢ 10 → Splits (input ++ byte ∷ []) lines (rest ++ byte ∷ [])
-Splits-more input lines rest byte splits unbroken = record {
-  whole = ap (λ l. l ++ byte ∷ []) splits.whole ∙ append_assoc _ rest _;
-  unbroken = splits.unbroken;
-  unended = All-push (λ byte. byte ≢ 10) rest byte splits.unended unbroken;
-}
+Splits-more input lines rest byte splits unbroken = grind (arith, common_steps, append_assoc, All-push)
 
 -- After a line break, the rest is one more line.
 Splits-ended : (input : List ℕ) (lines : List (List ℕ)) (rest : List ℕ) → Splits input lines rest → Splits (input ++ 10 ∷ []) (lines ++ rest ∷ []) []
-Splits-ended input lines rest splits = record {
-  whole = ap (λ l. l ++ 10 ∷ []) splits.whole ∙ rw (flat_map-append, append-nil, append-nil) (append_assoc _ rest _);
-  unbroken = All-push HasNoBreak lines rest splits.unbroken splits.unended;
-  unended = All-nil (λ byte. byte ≢ 10);
-}
+Splits-ended input lines rest splits = grind (arith, common_steps, flat_map-append, append-nil, append_assoc, All-push, All-nil)
 
 -- The same of the test at which the input is cut.
 no_cut : (line : List ℕ) → HasNoBreak line → All (λ byte. (byte == 10) ≡ false) line
@@ -56,10 +48,8 @@ Splits-ended_lines input lines rest splits = rw (Splits-pieces input lines rest 
 -- The last piece is a line unless it is empty.
 last_piece : (lines : List (List ℕ)) (rest : List ℕ) → without_empty_last (lines ++ rest ∷ []) ≡ (if length rest == 0 then lines else lines ++ rest ∷ [])
 last_piece [] rest = refl
-last_piece (line ∷ []) rest = elim (length rest == 0) as (λ b. ◌≡◌ {A = List (List ℕ)} (line ∷ (if b then [] else rest ∷ [])) (if b then line ∷ [] else line ∷ rest ∷ [])) [ true ↦ refl | false ↦ refl ]
-last_piece (line ∷ next ∷ lines) rest =
-    ap (λ l. line ∷ l) (last_piece (next ∷ lines) rest)
-    ∙ elim (length rest == 0) as (λ b. ◌≡◌ {A = List (List ℕ)} (line ∷ (if b then next ∷ lines else next ∷ lines ++ rest ∷ [])) (if b then line ∷ next ∷ lines else line ∷ next ∷ lines ++ rest ∷ [])) [ true ↦ refl | false ↦ refl ]
+last_piece (line ∷ []) rest = grind (arith)
+last_piece (line ∷ next ∷ lines) rest = grind (arith, last_piece (next ∷ lines) rest)
 
 -- A service proceeds over no bytes.
 pub GoesOn-nil : (line : Option (List ℕ)) (entries : Entries) (written : Option (List ℕ)) → GoesOn line entries [] written written line entries
@@ -75,17 +65,7 @@ GoesOn-trans line mid new entries next last bytes others written now later first
 
 -- A service proceeds over one more byte of a line.
 pub GoesOn-pushed : (line new : Option (List ℕ)) (entries : Entries) (written : Option (List ℕ)) (byte : ℕ) → byte ≢ 10 → ((whole : List ℕ) → line ≡ within_limit whole → new ≡ within_limit (whole ++ byte ∷ [])) → GoesOn line entries (byte ∷ []) written written new entries
-GoesOn-pushed line new entries written byte unbroken pushed input text served = (
-  [],
-  Appends-nil written,
-  record {
-    lines = served.lines;
-    rest = served.rest ++ byte ∷ [];
-    splits = Splits-more input served.lines served.rest byte served.splits unbroken;
-    gathered = pushed served.rest served.gathered;
-    answered = rw append-nil served.answered;
-  },
-)
+GoesOn-pushed line new entries written byte unbroken pushed input text served = grind (arith, common_steps, Appends-nil, Splits-more, append-nil)
 
 -- A service proceeds over a line break if it writes the answer to the line and clears it.
 pub GoesOn-answered : (line new : Option (List ℕ)) (entries last : Entries) (written now : Option (List ℕ))
