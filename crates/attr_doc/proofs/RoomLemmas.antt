@@ -1,5 +1,5 @@
 -- What a change of one section leaves of the spare capacity of the others.
-use Rattle.std.specs.Prelude.{◌≡◌, ◌≤◌, ℕ, false, true, List, ◌∷◌, [], Some, IsSome, All, length, unwrap_or}
+use Rattle.std.specs.Prelude.{◌≡◌, ◌≤◌, ℕ, false, true, List, ◌∷◌, [], Some, IsSome, All, length}
 use Rattle.std.specs.List.{AllByRecursion}
 use Rattle.std.specs.Map.{keys_of}
 use Rattle.std.specs.Str.{str_eq_ignore_ascii_case}
@@ -27,12 +27,9 @@ module _ (c : Contents (List ℕ) Stored) (s : List ℕ) (new : Stored) (there :
   -- The lookup of its name finds `new`.
   found_new : (q : List ℕ) → str_eq_ignore_ascii_case s q ≡ true → (o : Stored) → lookup str_eq_ignore_ascii_case (with_value_of str_eq_ignore_ascii_case c s new).entries q ≡ Some o → new ≡ o
   found_new q y o w =
-      let l = (with_value_of str_eq_ignore_ascii_case c s new).entries in
-      let e : Some new ≡ Some o =
-      sym (lookup_put str_eq_ignore_ascii_case ignoring_case_equiv c.entries s new)
-      ∙ ap (λ k. lookup str_eq_ignore_ascii_case k s) (sym (with_value_of_is_put str_eq_ignore_ascii_case c s new there))
-      ∙ lookup_congr str_eq_ignore_ascii_case ignoring_case_equiv l s q y ∙ w in
-      ap (λ p. unwrap_or p new) e
+      let found = lookup_put str_eq_ignore_ascii_case ignoring_case_equiv c.entries s new in
+      let same = lookup_congr str_eq_ignore_ascii_case ignoring_case_equiv (put str_eq_ignore_ascii_case c.entries s new) s q y in
+      grind (arith, found, same, with_value_of_is_put str_eq_ignore_ascii_case c s new there)
 
   -- The section has spare capacity for `n` more texts if its map has.
   pub has_room_at : (n : ℕ) → HasRoom new n → HasRoomAt (with_value_of str_eq_ignore_ascii_case c s new).entries s n
@@ -42,11 +39,7 @@ module _ (c : Contents (List ℕ) Stored) (s : List ℕ) (new : Stored) (there :
   pub keeps_room : (m : Stored) → Some m ≡ lookup str_eq_ignore_ascii_case c.entries s → new.entries ≡ m.entries → m.capacity ≤ new.capacity → (q : List ℕ) (n : ℕ) → HasRoomAt c.entries q n → HasRoomAt (with_value_of str_eq_ignore_ascii_case c s new).entries q n
   keeps_room m e f g q n room o w =
       elim (cases_Bool (str_eq_ignore_ascii_case s q)) [
-        | inl y ↦
-            let before : HasRoom m n = room m (sym (lookup_congr str_eq_ignore_ascii_case ignoring_case_equiv c.entries s q y) ∙ sym e) in
-            let same = ap length f in
-            let after : HasRoom new n = omega (arith, before, same, g) in
-            subst (λ (x : Stored). HasRoom x n) (found_new q y o w) after
+        | inl y ↦ grind (arith, room m, f, g, found_new q y o w, lookup_congr str_eq_ignore_ascii_case ignoring_case_equiv c.entries s q y)
         | inr y ↦ room o (sym (other_values_stay q y) ∙ w)
       ]
 

@@ -1,11 +1,10 @@
 -- A text that is found belongs to a stored key, and what is written there is an insertion of this key.
 use Rattle.std.specs.Map.{set_value}
-use Rattle.std.specs.Option.{option_map_or}
 use Rattle.std.specs.declared.alloc.Global.{Global}
-use Rattle.std.proofs.Common.{◌≡◌, ℕ, ℤ, Bool, List, [], ◌∷◌, ◌++◌, None, Option, Some, String, ap, false, if◌then◌else◌, is_some, refl, string_bytes, string_eq, subst, sym, true, true≢false, unwrap_or, ◌∙◌}
+use Rattle.std.proofs.Common.{arith, ◌≡◌, ℕ, ℤ, Bool, List, [], ◌∷◌, Some, String, ap, false, if◌then◌else◌, is_some, refl, string_bytes, string_eq, subst, sym, true, unwrap_or, ◌∙◌}
 use Rattle.std.proofs.lemmas.Option.{none-some}
 use Rattle.std.proofs.lemmas.Slice.Eq.{bytes_eq-Decides}
-use Rattle.vecmap.specs.Pairs.{has_text, index_of, lookup, lookup_by, put, with_value}
+use Rattle.vecmap.specs.Pairs.{has_text, index_of, lookup, lookup_by, put}
 use Rattle.vecmap_base.proofs.PairsLemmas.ByIndex.{is_some_lookup_by, put_by_index, set_value_by_index}
 use Rattle.vecmap_base.proofs.PairsLemmas.Puts.{put_stored}
 use Rattle.vecmap_run.specs.Steps.{Entries}
@@ -35,13 +34,8 @@ module _ (text : List ℕ) (l : Entries) (v w : ℤ) (e : lookup_by (has_text te
         key,
         found.1,
         sym (found_by_key key found.1),
-        ap (λ t. set_value (has_text t) l w) (sym found.1) ∙ set_value_by_index (string_eq key) l w
-            ∙ by key (index_of string_eq l key) (has_index key found.1) ∙ sym (put_by_index string_eq l key w),
+        grind (arith, found.1, has_index key found.1, set_value_by_index (string_eq key) l w, put_by_index string_eq l key w),
       )
-    where
-      by : (key : String Global) (o : Option ℕ) → is_some o ≡ true → option_map_or (λ i. with_value l i w) o l ≡ option_map_or (λ i. with_value l i w) o (l ++ (key, w) ∷ [])
-      by key None n = absurd (true≢false (sym n))
-      by key (Some i) n = refl
 
   -- An insertion that keeps an existing value leaves the list.
   pub keep_found : (key : String Global) × (string_bytes key ≡ text) × (Some v ≡ Some (unwrap_or (lookup string_eq l key) w)) × (l ≡ put string_eq l key (unwrap_or (lookup string_eq l key) w))
@@ -51,9 +45,5 @@ module _ (text : List ℕ) (l : Entries) (v w : ℤ) (e : lookup_by (has_text te
         key,
         found.1,
         ap (λ o. Some (unwrap_or o w)) (sym (found_by_key key found.1)),
-        sym (put_stored string_eq l key w ∙ by key (index_of string_eq l key) (has_index key found.1)),
+        grind (arith, has_index key found.1, put_stored string_eq l key w),
       )
-    where
-      by : (key : String Global) (o : Option ℕ) → is_some o ≡ true → option_map_or (λ i. l) o (l ++ (key, w) ∷ []) ≡ l
-      by key None n = absurd (true≢false (sym n))
-      by key (Some i) n = refl
