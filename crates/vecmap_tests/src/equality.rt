@@ -37,8 +37,8 @@ fn many_pairs(alloc: Global, value: f64) -> Result<Vec<(u32, f64)>, AllocError> 
     Ok(pairs)
 }
 
-/// Returns whether as many pairs are equal to these: others with another value or a NaN, and these with a duplicate of 0
-/// in place of 1.
+/// Returns whether two lists of so many pairs are equal: with two values, with NaNs, and with a duplicate of 0 in place of
+/// 1 in one of them.
 fn are_many_equal(alloc: Global) -> Result<[bool; 3], AllocError> {
     let pairs = many_pairs(alloc, 0.5)?;
     let mut others = pairs.clone()?;

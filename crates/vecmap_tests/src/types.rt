@@ -1,5 +1,5 @@
 //! Keys, values and elements of other types than those of a test case: texts, truth values, and values that do not print.
-//! And the macros, which a test case can only give three pairs or elements.
+//! And the macros, which a test case calls with three pairs or elements alone.
 use crate::checks::assert_prints;
 use std::alloc::Global;
 use std::cell::Cell;
