@@ -5,15 +5,14 @@
 //! let mut page = single(alloc, name("Font")?, name("Size")?, "12".to_string(alloc)?)?;
 //! set_text(alloc, &mut page, "Page", "Width", "5".to_string(alloc)?)?;
 //! replace(&mut page, name("FONT")?, name("SIZE")?, "14pt".to_string(alloc)?).as_deref() // Some("12")
-//! length_of_text(&page, &name("font")?, &name("size")?) // Some(4)
 //! let mut changes = blank(alloc);
 //! set_text(alloc, &mut changes, "Link", "Color", "red".to_string(alloc)?)?;
 //! finds_the_same(&page, &changes) // false
 //! merge_twice(&mut page, &mut changes)?;
 //! merge_both(&mut page, &mut blank(alloc), &mut blank(alloc))?;
-//! length_of_text(&page, &name("link")?, &name("color")?) // Some(3)
+//! page.get(&name("link")?, &name("color")?) // Some("red")
 //! ```
-ghost use Rattle.std.specs.Prelude.{◌≡◌, ◌∷◌, ℕ, IfOk, IsSome, IsTrue, List, None, OnErr, OnOk, [], length, option_map, string_bytes};
+ghost use Rattle.std.specs.Prelude.{◌≡◌, ◌∷◌, ℕ, IfOk, IsSome, IsTrue, List, None, OnErr, OnOk, [], option_map, string_bytes};
 ghost use Rattle.attr_doc.specs.Documents.{IsDocument, merge_of, text_of, with_text};
 
 pub use attr_doc::{Document, Name};
@@ -76,16 +75,6 @@ pub fn replace(page: &mut Document, section: Name, name: Name, text: String) -> 
     ensures old { option_map string_bytes result ≡ text_of page.old section name }
 {
     page.set(section, name, text).unwrap()
-}
-
-/// Returns the number of bytes of a text.
-pub fn length_of_text(page: &Document, section: &Name, name: &Name) -> Option<usize>
-    ensures { result ≡ option_map length (text_of page.now section.now name.now) }
-{
-    match page.get(section, name) {
-        Some(text) => Some(text.len()),
-        None => None,
-    }
 }
 
 /// Merges two documents into a third one.

@@ -7,8 +7,7 @@
 //! pull_keys(&map);
 //! add_one(&mut map);
 //! both_ends(&mut map) // (Some(4), Some(7))
-//! sum_of_values(map.clone()?) // Some(18)
-//! values_taken(alloc, map)?.as_slice() // [7, 7, 4]
+//! sum_of_values(map) // Some(18)
 //! ```
 ghost use Rattle.std.specs.List.{All};
 ghost use Rattle.std.specs.Map.{keys_of, values_of};
@@ -25,13 +24,6 @@ pub fn keys_reversed(alloc: Global, map: &VecMap<u64, u32>) -> Result<Vec<u64>, 
     ensures { IfOk result (λ keys. keys.items ≡ reverse (keys_of map.now.entries)) }
 {
     map.keys().rev().copied().collect(alloc)
-}
-
-/// Returns the values, by value, in reverse order.
-pub fn values_taken(alloc: Global, map: VecMap<u64, u32>) -> Result<Vec<u32>, AllocError>
-    ensures { IfOk result (λ values. values.items ≡ reverse (values_of map.entries)) }
-{
-    map.into_values().rev().collect(alloc)
 }
 
 /// Takes three keys from both ends of an iterator, copies it after the second, and calls it again past the end.

@@ -3,12 +3,11 @@
 //! ```
 //! let (a, b) = (vecset!(alloc; 1u32, 2, 3), vecset!(alloc; 3u32, 4));
 //! (sum_of_union(&a, &b), share_nothing(&a, &b)) // (10, false)
-//! union_in_reverse(alloc, &a, &b)?.as_slice() // [4, 3, 2, 1]
 //! let (x, y) = (vecmap!(alloc; 1u32 => 'a', 2 => 'b'), vecmap!(alloc; 2u32 => 'c', 3 => 'd'));
 //! keys_of_one(alloc, &x, &y)?.as_slice() // [1, 3]
 //! ```
 ghost use Rattle.std.specs.Map.{keys_of};
-ghost use Rattle.std.specs.Prelude.{◌≡◌, ◌<◌, ◌^◌, ◌↔◌, ◌&&◌, ◌||◌, IfOk, IsTrue, [], nat_eq, not, reverse, sum};
+ghost use Rattle.std.specs.Prelude.{◌≡◌, ◌<◌, ◌^◌, ◌↔◌, ◌&&◌, ◌||◌, IfOk, IsTrue, [], nat_eq, not, sum};
 ghost use Rattle.std.specs.Set.{is_member};
 ghost use Rattle.vecmap.specs.Items.{adds, both};
 ghost use Rattle.vecmap.specs.Operators.{symmetric_difference_of};
@@ -16,9 +15,7 @@ ghost use Rattle.vecmap_laws.specs.Algebra.{lazy_union};
 
 use std::alloc::{AllocError, Global};
 use vecmap::{VecMap, VecSet};
-use vecmap_laws::sets::{
-    clones_have_the_same_members, disjoint_sets_have_no_intersection, eq_is_an_equivalence,
-};
+use vecmap_laws::sets::{clones_have_the_same_members, disjoint_sets_have_no_intersection, eq_is_an_equivalence};
 
 /// Returns the sum of the elements of the union, by a loop.
 pub fn sum_of_union(a: &VecSet<u32>, b: &VecSet<u32>) -> u32
@@ -30,18 +27,6 @@ pub fn sum_of_union(a: &VecSet<u32>, b: &VecSet<u32>) -> u32
         total += *item;
     }
     total
-}
-
-/// Returns the elements of the union in reverse order, as a vector.
-pub fn union_in_reverse<T: Eq + Copy>(
-    alloc: Global,
-    a: &VecSet<T>,
-    b: &VecSet<T>,
-) -> Result<Vec<T>, AllocError>
-    ensures { IfOk result (λ items. items.items
-        ≡ reverse (lazy_union T.eq a.now.elements b.now.elements)) }
-{
-    a.union(b).rev().copied().collect(alloc)
 }
 
 /// Returns `true` if the sets have no common element, by one call of `next`.
