@@ -15,7 +15,9 @@ ghost use Rattle.vecmap_laws.specs.Algebra.{lazy_union};
 
 use std::alloc::{AllocError, Global};
 use vecmap::{VecMap, VecSet};
-use vecmap_laws::sets::{clones_have_the_same_members, disjoint_sets_have_no_intersection, eq_is_an_equivalence};
+use vecmap_laws::sets::{
+    clones_have_the_same_members, disjoint_sets_have_no_intersection, eq_is_an_equivalence,
+};
 
 /// Returns the sum of the elements of the union, by a loop.
 pub fn sum_of_union(a: &VecSet<u32>, b: &VecSet<u32>) -> u32
