@@ -1,6 +1,6 @@
 //! Tests of what no test case of `vecmap_script` can show, since the keys, values and elements there have one type: it has
-//! more than 16 bytes, prints, and cannot be copied. The head of each file says what its tests have instead. And README's
-//! two functions, in which the mutants in `must-fail` make bugs.
+//! more than 16 bytes, prints, and cannot be copied. The head of each file says what its tests have instead. And callers,
+//! in which the mutants in `must-fail` make bugs.
 #![tactic(auto)]
 
 #[cfg(test)]
@@ -9,6 +9,7 @@ mod checks;
 mod clones;
 #[cfg(test)]
 mod comparisons;
+pub mod conditions;
 #[cfg(test)]
 mod equality;
 #[cfg(test)]
