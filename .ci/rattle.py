@@ -5,6 +5,7 @@ The items of a source are read by `laws_for.py`, which users of the library get 
 
 import collections
 import difflib
+import functools
 import glob
 import os
 import re
@@ -30,7 +31,7 @@ DEFINITION = re.compile(
 NAME = re.compile(r"[A-Za-z_][\w']*")
 # The head of an `impl`: its parameters, which may have bounds with parameters, the trait if there is one, and the type.
 IMPL = re.compile(r"impl(?:<(?:->|[^<>]|<(?:->|[^<>]|<[^<>]*>)*>)*>)? (?:(.*) for )?(.*?)(?: where.*)?")
-# A definition: its line, its name, the lines of its comment, and its text, which begins with its module if it has one.
+# A definition: its line, its name, the lines of its comment, and its text, which begins with the modules that it is in.
 Definition = collections.namedtuple("Definition", "line name comment text")
 # A block of code: the line that opens it, the words there, its lines, and those of the comment right above it.
 Block = collections.namedtuple("Block", "line mark lines above")
@@ -126,16 +127,19 @@ def dependencies():
     return {name: needs.split() for name, needs in lines}
 
 
+@functools.cache
 def definitions(path):
-    """Returns the public definitions of a file."""
+    """Returns the public definitions of a file, each below the heads of the modules that it is in."""
     text, made = read(path), []
     for found in DEFINITION.finditer(text):
         comment, indent, name = found.groups()
-        start = found.start(2)
+        start, heads, depth = found.start(2), [], len(indent)
+        for space, head in reversed(re.findall("^( *)(module .*)", text[:start], re.MULTILINE)):
+            if len(space) < depth:
+                heads, depth = [space + head, *heads], len(space)
         lines = [line.strip()[3:] for line in comment.splitlines()]
-        module = re.findall("^module .*", text[:start], re.MULTILINE)[-1:] if indent else []
-        whole = [*module, text[start : found.end()].rstrip("\n")]
-        made.append(Definition(text.count("\n", 0, start), name, lines, "\n".join(whole)))
+        whole = "\n".join([*heads, text[start : found.end()].rstrip("\n")])
+        made.append(Definition(text.count("\n", 0, start), name, lines, whole))
     return made
 
 

@@ -1,54 +1,47 @@
-"""Says clauses in words: the sentence of the definition that a clause names, with the arguments put in.
+"""Says a clause in words: the sentence of the definition that it names, with the arguments put in.
 
 A clause gets no words if its formula has another form, or a definition whose sentence does not speak of an argument.
 """
 
 import re
 
+# A word of a formula, or what stands in parentheses.
+WORD = re.compile(r"\((?:[^()]|\((?:[^()]|\([^()]*\))*\))*\)(?:\.\w+)*|[^\s()]+")
 # What is said of a result before a clause that holds only if it has this form.
-RESULTS = {
-    "OnOk": "On `Ok{}`", "IfOk": "On `Ok{}`", "OnErr": "On `Err{}`", "IfErr": "On `Err{}`",
-    "IfSome": "If the result is `Some{}`", "OnSome": "If the result is `Some{}`",
-}  # fmt: skip
-FOR_EACH = re.compile(r"(?:\([^()]* : [^()]*\) ?)+")
-
-
-def split(text, sign):
-    """Returns the parts of a formula between the places of a sign that are in no parentheses."""
-    parts, depth = [""], 0
-    for word in re.split(rf"({re.escape(sign)}|[(){{}}])", text):
-        depth += (word in ("(", "{")) - (word in (")", "}"))
-        parts = [*parts, ""] if word == sign and not depth else [*parts[:-1], parts[-1] + word]
-    return [it.strip() for it in parts]
+RESULT = re.compile(r"(OnOk|IfOk|OnErr|IfErr|OnSome|IfSome) result (\(.*\))")
 
 
 def bare(text):
     """Returns a formula without parentheses around the whole. Those of a pair stay."""
-    text = text.strip()
-    while len(split(text, " ")) == 1 and text[:1] + text[-1:] == "()" and len(split(text[1:-1], ",")) == 1:
-        text = text[1:-1].strip()
-    return text
+    is_pair = any(it[-1:] == "," for it in WORD.findall(text[1:-1]))
+    return text[1:-1] if len(WORD.findall(text)) == 1 and text[:1] + text[-1:] == "()" and not is_pair else text
+
+
+def split(formula, sign):
+    """Returns the parts of a formula between the places of a sign that are in no parentheses."""
+    parts = [[]]
+    for word in WORD.findall(formula):
+        parts = [*parts, []] if word == sign else [*parts[:-1], [*parts[-1], word]]
+    return [bare(" ".join(it)) for it in parts]
 
 
 def parameters(name, text):
-    """Returns the names of the explicit parameters of a definition, and `?` for one that it takes apart."""
-    heads = [it for it in text.splitlines() if re.match(r" *(?:module|pub record) ", it)]
-    found = [it for head in heads for group in re.findall(r"\(([\w' ]+) :", head) for it in group.split()]
+    """Returns the names of the explicit parameters of a definition, or the patterns that it has in their place."""
+    heads = " ".join(it for it in text.splitlines() if re.match(r" *(?:module|pub record) ", it))
     left = re.search(rf"^ *{name} (.*?) =(?: |$)", text, re.MULTILINE)
-    patterns = split(re.sub(r"\{[^}]*\}", "", left[1]).strip(), " ") if left else []
-    return found + [it if re.fullmatch(r"[\w']+", it) else "?" for it in patterns if it]
+    found = [it for group in re.findall(r"\(([\w' ]+) :", heads) for it in group.split()]
+    return found + WORD.findall(re.sub(r"\{[^}]*\}", "", left[1] if left else ""))
 
 
 def sentence(formula, about):
     """Returns the sentence of a definition with the arguments of a formula in it, or nothing."""
-    name, *arguments = [it for it in split(bare(formula), " ") if it]
+    name, *arguments = WORD.findall(formula)
     told, text = about(name)
-    names = parameters(name, text)
-    if re.match("(?:`|What |The same |$)", told) or len(arguments) != len(names):
+    names = parameters(name, text) if told else []
+    if not told or re.match("`|that |What |[Tt]he same |[Ww]here |The capacity after ", told) or len(names) != len(arguments):
         return ""
-    letters = (it for it in re.findall(r"`([b-hj-z])`", told) if it not in names)
-    names = [next(letters, "?") if it == "?" else it for it in names]
-    given = dict(zip(names, map(bare, arguments)))
+    letters = (it for it in re.findall("`([b-hj-z])`", told) if it not in names)
+    given = {it if re.fullmatch(r"[\w']+", it) else next(letters, it): bare(of) for it, of in zip(names, arguments)}
     if query := re.fullmatch(r"(?:Q\.equivalent|has_text) ([\w.]+)", given.get("test", "")):
         told = told.replace("passes the test", f"matches `{query[1]}`")
     within = lambda it: re.sub(r"[a-z]\w*", lambda word: given.get(word[0], word[0]), it[0])
@@ -56,41 +49,28 @@ def sentence(formula, about):
     said = re.sub(r"`[^`]*`|(?<![\w'])[b-hj-z](?![\w'])", put, told).rstrip(".")
     lists = [it for it in arguments if re.fullmatch(r"[\w.]+\.(?:entries|elements)", it)]
     said += f" in `{lists[0]}`" if len(lists) == 1 and not {lists[0], ","} & {*re.split("(,)|`", said)} else ""
-    unsaid = any(not re.match(r"\w|\(\w+\.\w+", it) and bare(it) not in said for it in arguments)
-    if unsaid or lists and not any(it in said for it in lists) or re.search("`(?:true|false)` is true|λ", said):
-        return ""  # The sentence does not speak of an argument, or reads badly.
-    return said
-
-
-def lower(text):
-    """Returns a sentence as it stands within another."""
-    return text[:1].lower() + text[1:]
+    unsaid = [it for it in map(bare, arguments) if re.search("[ (]", it) and "." not in it and it not in said]
+    is_said = not unsaid and (not lists or any(it in said for it in lists))
+    return said if is_said and not re.search(r"`(?:true|false)` is true|λ|\b[B-Z]\b", said) else ""
 
 
 def said(formula, about):
-    """Returns what a formula says in words, or nothing."""
-    formula = bare(" ".join(formula.split()))
-    if (found := re.match(r"(\w+) result (\(.*\)$)", formula)) and found[1] in RESULTS:
-        inner = re.fullmatch(r"λ (\w+)\. (.*)", bare(found[2]))
-        rest = said(inner[2] if inner else found[2], about)
-        return rest and f"{RESULTS[found[1]].format(f'({inner[1]})' if inner else '')}, {lower(rest)}"
+    """Returns what a formula says in words, or nothing. `about` returns the sentence and the text of a definition."""
+    lower = lambda text: text[:1].lower() + text[1:]
+    if found := RESULT.fullmatch(formula):
+        name, inner = re.fullmatch(r"(?:λ (\w+)\. )?(.*)", bare(found[2])).groups()
+        form = f"`{found[1][2:]}({name})`" if name else f"`{found[1][2:]}`"
+        rest = said(inner, about)
+        return rest and ("If the result is " if "Some" in form else "On ") + f"{form}, {lower(rest)}"
     *premises, last = split(formula, "→")
     if premises:
-        parts = [said(it, about) for it in [*(it for it in premises if not FOR_EACH.fullmatch(it)), last]]
-        conditions = " and ".join(map(lower, parts[:-1]))
-        if not all(parts) or ". " in conditions or len({*parts}) < len(parts):
-            return ""
-        return f"If {conditions}, then {lower(parts[-1])}" if conditions else parts[-1]
-    sides = split(formula, "≡")
-    if len(sides) == 2:
-        value = sentence(sides[1], about) if len(split(bare(sides[1]), " ")) > 1 else ""
-        name = "The result" if sides[0] == "result" else f"`{bare(sides[0])}`"
+        *conditions, last = [said(it, about) for it in [*(it for it in premises if " : " not in it), last]]
+        is_said = all([last, *conditions]) and len({last, *conditions}) > len(conditions) and ". " not in "".join(conditions)
+        premise = "If {}, then ".format(" and ".join(map(lower, conditions))) if conditions else ""
+        return premise + (lower(last) if premise else last) if is_said else ""
+    left, *right = split(formula, "≡")
+    if right:
+        value = sentence(right[0], about) if " " in right[0] else ""
+        name = "The result" if left == "result" else f"`{left}`"
         return f"{name} is {lower(value)}" if value.startswith("The ") and "λ" not in name else ""
     return "The call returns `Ok`" if formula == "IsOk result" else sentence(formula, about)
-
-
-def in_words(clauses, about):
-    """Returns a list of what clauses say, each by its label and its formula, or nothing."""
-    rows = ((label, said(formula, about)) for label, formula in clauses)
-    made = "\n".join(f"- {f'`{label}`: ' if label else ''}{it[0].upper()}{it[1:]}." for label, it in rows if it)
-    return f'<details class="follows"><summary>In words</summary>\n\n{made}\n\n</details>\n' if made else ""
