@@ -1,13 +1,14 @@
 -- The index of the first element of a list that passes a test.
-use Rattle.std.specs.Prelude.{◌≡◌, ℕ, zero, suc, ◌+◌, ◌<◌, Bool, true, false, ◌||◌, nat_lt, List, [], ◌∷◌, ◌++◌, Option, None, Some, drop, is_some, length, map, position, remove, slice_get, take, refl}
+use Rattle.std.specs.Prelude.{◌≡◌, ℕ, zero, suc, ◌+◌, ◌<◌, Bool, true, false, ◌||◌, nat_lt, List, [], ◌∷◌, ◌++◌, Option, None, Some, IfSome, drop, is_some, length, map, position, remove, slice_get, take, refl}
 use Rattle.std.specs.List.{list_any, position_or_len}
 use Rattle.std.specs.Option.{option_and_then, option_map}
-use Rattle.std.proofs.lemmas.Option.{none-some}
+use Rattle.std.proofs.lemmas.Option.{none-some, slice_get-get_or}
 use Rattle.std.proofs.Common.{cond, sym, ap, ◌∙◌, arith, get_or, take_at, true≢false, inl, inr}
 use Rattle.std.proofs.Math.Seq.{get_or-append_seam}
 use Rattle.std.proofs.lemmas.Bool.{cases_Bool, false_from_ne_true, lt-ltb, ltb-true}
 use Rattle.std.proofs.lemmas.List.{length-append, take-append-drop}
 use Rattle.std.proofs.lemmas.List.Folds.{list_any_at, list_any_more}
+use Rattle.std.proofs.lemmas.List.Quantifiers.{position-Some}
 
 pub is_some-map : {X Y : Type 0} (f : X → Y) (o : Option X) → is_some (option_map f o) ≡ is_some o
 is_some-map f None = refl
@@ -136,3 +137,12 @@ module _ {X Y : Type 0} (p : Y → Bool) (f : X → Y) where
   pub list_any_map : (xs : List X) → list_any p (map f xs) ≡ list_any (λ x. p (f x)) xs
   list_any_map [] = refl
   list_any_map (x ∷ xs) = ap (λ b. p (f x) || b) (list_any_map xs)
+
+module _ {T : Type 0} (test : T → Bool) where
+  -- The element at the index that a query finds matches the query.
+  pub found_item_at : (s : List T) (found : Option ℕ) → found ≡ position test s → IfSome found (λ i. (x : T) × (slice_get s i ≡ Some x) × (test x ≡ true))
+  found_item_at s None e = tt
+  found_item_at [] (Some i) e = absurd (none-some i (sym e))
+  found_item_at (x ∷ xs) (Some i) e =
+      let at = position-Some test (x ∷ xs) i x (sym e) in
+      (get_or (x ∷ xs) i x, slice_get-get_or (x ∷ xs) i x at.0, at.1)

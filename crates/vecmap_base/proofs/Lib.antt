@@ -11,7 +11,9 @@ pub mod MatchingLemmas
 pub mod MoveLemmas
 pub mod PairsLemmas
 pub mod IndexLemmas
+pub mod RemovalLemmas
 pub mod SearchLemmas
+pub mod TakenLemmas
 pub mod UpdatedLemmas
 mod UpdatedSteps
 pub mod WalkLemmas

@@ -12,4 +12,5 @@ pub mod Lookups
 pub mod Orders
 pub mod Pairs
 pub mod Ranges
+pub mod Removals
 pub mod Updated

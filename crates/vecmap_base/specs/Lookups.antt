@@ -34,6 +34,7 @@ module _ {K V : Type 0} where
   -- Example: `[(1,a)]`, the first pair of `[(1,a), (2,b)]`.
   -- Each query whose match is among the first `n` pairs of `l` finds in the list `m` what it found, and any other nothing.
   pub record KeepsFront (n : ℕ) (l m : List (K × V)) : Type 0 where
+    pub entries : m ≡ take n l
     pub found : (test : K → Bool) (i : ℕ) → index_by test l ≡ Some i → i < n → lookup_by test m ≡ lookup_by test l
     pub gone : (test : K → Bool) (i : ℕ) → index_by test l ≡ Some i → n ≤ i → lookup_by test m ≡ None
     pub absent : (test : K → Bool) → lookup_by test l ≡ None → lookup_by test m ≡ None

@@ -5,7 +5,7 @@ use Rattle.std.specs.Prelude.{nat_lt}
 use Rattle.std.proofs.lemmas.{Bool.Decides.nat_tests, List.Sorted.IsPermutation-reverse}
 use Rattle.vecmap_base.specs.Items.{swap_without, swap_without_item, without_item}
 use Rattle.vecmap_base.specs.Pairs.{HasDistinctKeys, index_by, index_of, index_or_length, lookup, lookup_by, put_at, put_key, swap_without_key, without_key}
-use Rattle.vecmap_base.proofs.PairsLemmas.Updates.{updates_swap_without}
+use Rattle.vecmap_base.proofs.RemovalLemmas.{swap_removes_by}
 use Rattle.vecmap_laws.proofs.AfterPuts.{is_some_lookup, lookup_put_any, lookup_put_key}
 use Rattle.vecmap_laws.proofs.DistinctKeys.{distinct_keys_rearranged, distinct_keys_without}
 use Rattle.vecmap_laws.proofs.HeadLemmas.{head_has_no_value, rest_is_distinct}
@@ -18,7 +18,7 @@ use Rattle.vecmap_laws.proofs.RemovalLemmas.{is_member_by_test, remove_leaves, s
 
 module _ {K V : Type 0} (eq : K → K → Bool) (o : IsEquivalence eq) where
   pub lookup_swap_without_key : (l : List (K × V)) (k q : K) → HasDistinctKeys eq l → lookup eq (swap_without_key eq l k) q ≡ (if eq k q then None else lookup eq l q)
-  lookup_swap_without_key l k q d = (updates_swap_without eq o (eq k) (o.congr k) l d).lookups q
+  lookup_swap_without_key l k q d = ((swap_removes_by (eq k) l eq o (o.congr k) (swap_without_key eq l k) refl).updates d).lookups q
 
   -- A permutation is a list of swaps, so these two are for sorts.
   pub lookup_swapped : (l : List (K × V)) (moves : List (ℕ × ℕ)) (q : K) → SwapsInRange (length l) moves → HasDistinctKeys eq l → lookup eq (apply_swaps l moves) q ≡ lookup eq l q

@@ -9,7 +9,8 @@ ghost use Rattle.std.specs.Map.Calls.{ModifiesValue};
 ghost use Rattle.std.specs.Option.{UnwrapsOrElse, option_map_or};
 ghost use Rattle.vecmap_base.specs.Indices.{AddsKey};
 ghost use Rattle.vecmap_base.specs.Lookups.{Updates};
-ghost use Rattle.vecmap_base.specs.Pairs.{HasDistinctKeys, index_of, lookup, put};
+ghost use Rattle.vecmap_base.specs.Pairs.{index_of, lookup, put};
+ghost use Rattle.vecmap_base.specs.Removals.{RemovesBy, SwapRemovesBy};
 ghost use Rattle.vecmap_map.specs.Contents.{IsFull};
 
 mod occupied;
@@ -71,10 +72,9 @@ impl<K, V> VecMap<K, V> {
         ensures updates { (v : V) → Updates K.eq self.old.entries key
             (entries_with result v) (Some v) }
         ensures keys { (v : V) → AddsKey K.eq self.old.entries key v (entries_with result v) }
-        ensures removal { HasDistinctKeys K.eq self.old.entries
-            → Updates K.eq self.old.entries key (entries_without result) None }
-        ensures swap_removal { HasDistinctKeys K.eq self.old.entries
-            → Updates K.eq self.old.entries key (entries_swap_without result) None }
+        ensures removal { RemovesBy K.eq (K.eq key) self.old.entries (entries_without result) }
+        ensures swap_removal { SwapRemovesBy K.eq (K.eq key) self.old.entries
+            (entries_swap_without result) }
     {
         Entry::over(self, key)
     }

@@ -1,15 +1,12 @@
 //! Removal of pairs.
-ghost use Rattle.std.specs.Prelude.{◌≡◌, IfNone, IfSome, ◌-◌, ◌<◌, ◌≤◌, IfOk, IsOk, OnErr, OnOk, Some, String, [], drop, length, remove, slice_get, take};
-ghost use Rattle.vecmap_base.specs.Items.{swap_without};
-ghost use Rattle.vecmap_base.specs.Asked.{CallableAtPair, CallableOnEach, CallsAtPair};
-ghost use Rattle.vecmap_base.specs.Kept.{FiltersValues, Kept, Retains, ReturnsAtKey};
+ghost use Rattle.std.specs.Prelude.{◌≡◌, ◌++◌, ◌<◌, ◌≤◌, Bool, IfNone, IfOk, IsOk, None, OnErr, OnOk, Option, String, [], drop, false, if◌then◌else◌, length, string_eq, true};
 ghost use Rattle.std.specs.Map.{IsKeyTest, keys_of};
 ghost use Rattle.std.specs.Option.{option_and_then, option_or};
-ghost use Rattle.std.specs.Cmp.{IsEquivalence};
-ghost use Rattle.std.specs.Prelude.{◌+◌, ◌++◌, is_some, option_map, Bool, None, Option, cond, false, if◌then◌else◌, string_eq, true};
-ghost use Rattle.vecmap_base.specs.Indices.{ShiftsIndices};
-ghost use Rattle.vecmap_base.specs.Lookups.{KeepsFront, UpdatesBy};
-ghost use Rattle.vecmap_base.specs.Pairs.{HasDistinctKeys, has_text, index_by, lookup_by, lookup_pair_by, swap_without_by, without_by};
+ghost use Rattle.vecmap_base.specs.Asked.{CallableAtPair, CallableOnEach, CallsAtPair};
+ghost use Rattle.vecmap_base.specs.Kept.{FiltersValues, Kept, Retains, ReturnsAtKey};
+ghost use Rattle.vecmap_base.specs.Lookups.{KeepsFront};
+ghost use Rattle.vecmap_base.specs.Pairs.{HasDistinctKeys, has_text, lookup_by};
+ghost use Rattle.vecmap_base.specs.Removals.{FindsPair, RemovesAt, RemovesBy, RemovesLast, SwapRemovesAt, SwapRemovesBy};
 
 use crate::VecMap;
 use std::alloc::AllocError;
@@ -62,11 +59,8 @@ impl<K, V> VecMap<K, V> {
     where
         K: Drop,
         V: Drop,
-        ensures entries { self.new.entries ≡ take len self.old.entries }
+        ensures front { KeepsFront len self.old.entries self.new.entries }
         ensures capacity { self.new.capacity ≡ self.old.capacity }
-
-        // What follows for lookups, lengths and indices.
-        ensures lookups { KeepsFront len self.old.entries self.new.entries }
     {
         self.pairs.truncate(len);
     }
@@ -99,14 +93,13 @@ impl<K, V> VecMap<K, V> {
     /// ```
     pub fn split_off(&mut self, at: usize) -> Result<VecMap<K, V>, AllocError>
         requires within { at ≤ length self.old.entries }
-        ensures entries { OnOk result (self.new.entries ≡ take at self.old.entries) }
+        ensures front { OnOk result (KeepsFront at self.old.entries self.new.entries) }
         ensures part { IfOk result (λ part. part.entries ≡ drop at self.old.entries) }
         ensures capacity { self.new.capacity ≡ self.old.capacity }
         ensures succeeds { at ≡ length self.old.entries → IsOk result }
         ensures err { OnErr result (self.new ≡ self.old) }
 
         // What follows for lookups, lengths and indices.
-        ensures lookups { OnOk result (KeepsFront at self.old.entries self.new.entries) }
         ensures part_lookups { IfOk result (λ part. (test : K → Bool) → lookup_by test self.old.entries
             ≡ option_or (lookup_by test self.new.entries) (lookup_by test part.entries)) }
         ensures part_keys { IfOk result (λ part. keys_of self.new.entries ++ keys_of part.entries
@@ -187,19 +180,8 @@ impl<K, V> VecMap<K, V> {
     /// map.as_slice() // [('a', 1)]
     /// ```
     pub fn pop(&mut self) -> Option<(K, V)>
-        ensures pair { result ≡ slice_get self.old.entries (length self.old.entries - 1) }
-        ensures entries { self.new.entries ≡ take (length self.old.entries - 1) self.old.entries }
+        ensures removal { RemovesLast self.old.entries result self.new.entries }
         ensures capacity { self.new.capacity ≡ self.old.capacity }
-
-        // What follows for lookups, lengths and indices.
-        ensures lookups { KeepsFront (length self.old.entries - 1) self.old.entries
-            self.new.entries }
-        ensures removal { IfSome result (λ pair. (test : K → Bool) (eq : K → K → Bool)
-            → HasDistinctKeys eq self.old.entries → IsKeyTest eq test → IsEquivalence eq
-            → lookup_by test self.new.entries
-            ≡ cond (test pair.0) None (lookup_by test self.old.entries)) }
-        ensures len { length self.new.entries + (if is_some result then 1 else 0)
-            ≡ length self.old.entries }
     {
         self.pairs.pop()
     }
@@ -225,18 +207,8 @@ impl<K, V> VecMap<K, V> {
     where
         K: Eq + Drop,
         ensures value { result ≡ lookup_by (Q.equivalent query) self.old.entries }
-        ensures entries { self.new.entries ≡ without_by (Q.equivalent query) self.old.entries }
+        ensures removal { RemovesBy K.eq (Q.equivalent query) self.old.entries self.new.entries }
         ensures capacity { self.new.capacity ≡ self.old.capacity }
-
-        // What follows for lookups, lengths and indices.
-        ensures updates { HasDistinctKeys K.eq self.old.entries → UpdatesBy K.eq
-            (Q.equivalent query) self.old.entries self.new.entries None }
-        ensures distinct { HasDistinctKeys K.eq self.old.entries
-            → HasDistinctKeys K.eq self.new.entries }
-        ensures len { length self.new.entries + (if is_some result then 1 else 0)
-            ≡ length self.old.entries }
-        ensures indices { IfSome (index_by (Q.equivalent query) self.old.entries)
-            (λ i. ShiftsIndices i self.old.entries self.new.entries) }
         ensures unchanged { IfNone result (self.new ≡ self.old) }
     {
         let (_key, value) = self.remove_entry(query)?;
@@ -256,23 +228,9 @@ impl<K, V> VecMap<K, V> {
     pub fn remove_entry<Q: Equivalent<K>>(&mut self, query: Q) -> Option<(K, V)>
     where
         K: Eq,
-        ensures pair { result ≡ lookup_pair_by (Q.equivalent query) self.old.entries }
-        ensures entries { self.new.entries ≡ without_by (Q.equivalent query) self.old.entries }
+        ensures pair { FindsPair (Q.equivalent query) self.old.entries result }
+        ensures removal { RemovesBy K.eq (Q.equivalent query) self.old.entries self.new.entries }
         ensures capacity { self.new.capacity ≡ self.old.capacity }
-
-        // What follows for lookups, lengths and indices.
-        ensures updates { HasDistinctKeys K.eq self.old.entries → UpdatesBy K.eq
-            (Q.equivalent query) self.old.entries self.new.entries None }
-        ensures distinct { HasDistinctKeys K.eq self.old.entries
-            → HasDistinctKeys K.eq self.new.entries }
-        ensures found { is_some result
-            ≡ is_some (lookup_by (Q.equivalent query) self.old.entries) }
-        ensures value { option_map (λ p. p.1) result
-            ≡ lookup_by (Q.equivalent query) self.old.entries }
-        ensures len { length self.new.entries + (if is_some result then 1 else 0)
-            ≡ length self.old.entries }
-        ensures indices { IfSome (index_by (Q.equivalent query) self.old.entries)
-            (λ i. ShiftsIndices i self.old.entries self.new.entries) }
         ensures unchanged { IfNone result (self.new ≡ self.old) }
     {
         let index = find_equivalent(&self.pairs, query)?;
@@ -301,21 +259,8 @@ impl<K, V> VecMap<K, V> {
     /// ```
     pub fn remove_index(&mut self, index: usize) -> (K, V)
         requires within { index < length self.old.entries }
-        ensures pair { slice_get self.old.entries index ≡ Some result }
-        ensures entries { self.new.entries ≡ remove self.old.entries index }
+        ensures removal { RemovesAt index self.old.entries result self.new.entries }
         ensures capacity { self.new.capacity ≡ self.old.capacity }
-
-        // What follows for lookups, lengths and indices.
-        ensures lookups { (test : K → Bool) (eq : K → K → Bool) → HasDistinctKeys eq self.old.entries
-            → IsKeyTest eq test → IsEquivalence eq → lookup_by test self.new.entries
-            ≡ cond (test result.0) None (lookup_by test self.old.entries) }
-        ensures distinct { (eq : K → K → Bool) → HasDistinctKeys eq self.old.entries
-            → HasDistinctKeys eq self.new.entries }
-        ensures gone { (test : K → Bool) (eq : K → K → Bool) → HasDistinctKeys eq self.old.entries
-            → IsKeyTest eq test → IsEquivalence eq → index_by test self.old.entries ≡ Some index
-            → lookup_by test self.new.entries ≡ None }
-        ensures len { length self.new.entries + 1 ≡ length self.old.entries }
-        ensures indices { ShiftsIndices index self.old.entries self.new.entries }
     {
         remove_item(&mut self.pairs, index)
     }
@@ -340,16 +285,8 @@ impl<K, V> VecMap<K, V> {
     where
         K: Eq + Drop,
         ensures value { result ≡ lookup_by (Q.equivalent query) self.old.entries }
-        ensures entries { self.new.entries ≡ swap_without_by (Q.equivalent query) self.old.entries }
+        ensures removal { SwapRemovesBy K.eq (Q.equivalent query) self.old.entries self.new.entries }
         ensures capacity { self.new.capacity ≡ self.old.capacity }
-
-        // What follows for lookups, lengths and indices.
-        ensures updates { HasDistinctKeys K.eq self.old.entries → UpdatesBy K.eq
-            (Q.equivalent query) self.old.entries self.new.entries None }
-        ensures distinct { HasDistinctKeys K.eq self.old.entries
-            → HasDistinctKeys K.eq self.new.entries }
-        ensures len { length self.new.entries + (if is_some result then 1 else 0)
-            ≡ length self.old.entries }
         ensures unchanged { IfNone result (self.new ≡ self.old) }
     {
         let (_key, value) = self.swap_remove_entry(query)?;
@@ -369,21 +306,9 @@ impl<K, V> VecMap<K, V> {
     pub fn swap_remove_entry<Q: Equivalent<K>>(&mut self, query: Q) -> Option<(K, V)>
     where
         K: Eq,
-        ensures pair { result ≡ lookup_pair_by (Q.equivalent query) self.old.entries }
-        ensures entries { self.new.entries ≡ swap_without_by (Q.equivalent query) self.old.entries }
+        ensures pair { FindsPair (Q.equivalent query) self.old.entries result }
+        ensures removal { SwapRemovesBy K.eq (Q.equivalent query) self.old.entries self.new.entries }
         ensures capacity { self.new.capacity ≡ self.old.capacity }
-
-        // What follows for lookups, lengths and indices.
-        ensures updates { HasDistinctKeys K.eq self.old.entries → UpdatesBy K.eq
-            (Q.equivalent query) self.old.entries self.new.entries None }
-        ensures distinct { HasDistinctKeys K.eq self.old.entries
-            → HasDistinctKeys K.eq self.new.entries }
-        ensures found { is_some result
-            ≡ is_some (lookup_by (Q.equivalent query) self.old.entries) }
-        ensures value { option_map (λ p. p.1) result
-            ≡ lookup_by (Q.equivalent query) self.old.entries }
-        ensures len { length self.new.entries + (if is_some result then 1 else 0)
-            ≡ length self.old.entries }
         ensures unchanged { IfNone result (self.new ≡ self.old) }
     {
         let index = find_equivalent(&self.pairs, query)?;
@@ -410,20 +335,8 @@ impl<K, V> VecMap<K, V> {
     /// ```
     pub fn swap_remove_index(&mut self, index: usize) -> (K, V)
         requires within { index < length self.old.entries }
-        ensures pair { slice_get self.old.entries index ≡ Some result }
-        ensures entries { self.new.entries ≡ swap_without self.old.entries index }
+        ensures removal { SwapRemovesAt index self.old.entries result self.new.entries }
         ensures capacity { self.new.capacity ≡ self.old.capacity }
-
-        // What follows for lookups, lengths and indices.
-        ensures lookups { (test : K → Bool) (eq : K → K → Bool) → HasDistinctKeys eq self.old.entries
-            → IsKeyTest eq test → IsEquivalence eq → lookup_by test self.new.entries
-            ≡ cond (test result.0) None (lookup_by test self.old.entries) }
-        ensures distinct { (eq : K → K → Bool) → IsEquivalence eq → HasDistinctKeys eq self.old.entries
-            → HasDistinctKeys eq self.new.entries }
-        ensures gone { (test : K → Bool) (eq : K → K → Bool) → HasDistinctKeys eq self.old.entries
-            → IsKeyTest eq test → IsEquivalence eq → index_by test self.old.entries ≡ Some index
-            → lookup_by test self.new.entries ≡ None }
-        ensures len { length self.new.entries + 1 ≡ length self.old.entries }
     {
         self.pairs.swap_remove(index)
     }
@@ -440,18 +353,9 @@ impl<V> VecMap<String, V> {
     /// ```
     pub fn remove_str(&mut self, text: &str) -> Option<V>
         ensures value { result ≡ lookup_by (has_text text.now) self.old.entries }
-        ensures entries { self.new.entries ≡ without_by (has_text text.now) self.old.entries }
+        ensures removal { RemovesBy string_eq (has_text text.now) self.old.entries
+            self.new.entries }
         ensures capacity { self.new.capacity ≡ self.old.capacity }
-
-        // What follows for lookups, lengths and indices.
-        ensures updates { HasDistinctKeys string_eq self.old.entries → UpdatesBy string_eq
-            (has_text text.now) self.old.entries self.new.entries None }
-        ensures distinct { HasDistinctKeys string_eq self.old.entries
-            → HasDistinctKeys string_eq self.new.entries }
-        ensures len { length self.new.entries + (if is_some result then 1 else 0)
-            ≡ length self.old.entries }
-        ensures indices { IfSome (index_by (has_text text.now) self.old.entries)
-            (λ i. ShiftsIndices i self.old.entries self.new.entries) }
         ensures unchanged { IfNone result (self.new ≡ self.old) }
     {
         self.remove(text)

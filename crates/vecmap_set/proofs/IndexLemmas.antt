@@ -15,17 +15,9 @@ pub use Rattle.vecmap_base.proofs.MoveLemmas.{at_reversed}
 use Rattle.vecmap_base.proofs.ItemsLemmas.Recursion.{put_item_cons}
 use Rattle.vecmap_set.specs.Indices.{KeepsMatchIndices, KeepsMatchIndicesBelow, KeepsItemIndices, MovesItemIndex, ShiftsItems}
 use Rattle.vecmap_base.proofs.{MoveLemmas.moved_item, MoveLemmas.moved_other, MoveLemmas.swapped_item, MoveLemmas.swapped_item_back, MoveLemmas.swapped_other}
-pub use Rattle.vecmap_base.proofs.IndexLemmas.{stored_last}
+pub use Rattle.vecmap_base.proofs.IndexLemmas.{found_item_at, stored_last}
 
 module _ {T : Type 0} (test : T → Bool) where
-  -- The element at the index that a query finds matches the query.
-  pub found_item_at : (s : List T) (found : Option ℕ) → found ≡ position test s → IfSome found (λ i. (x : T) × (slice_get s i ≡ Some x) × (test x ≡ true))
-  found_item_at s None e = tt
-  found_item_at [] (Some i) e = absurd (none-some i (sym e))
-  found_item_at (x ∷ xs) (Some i) e =
-      let at = position-Some test (x ∷ xs) i x (sym e) in
-      (get_or (x ∷ xs) i x, slice_get-get_or (x ∷ xs) i x at.0, at.1)
-
   module _ (eq : T → T → Bool) (o : IsEquivalence eq) (respects : IsKeyTest eq test) where
     -- Equal elements match the same.
     same_test : (x y : T) → eq x y ≡ true → test y ≡ test x
@@ -65,7 +57,7 @@ module _ {T : Type 0} (test : T → Bool) where
     -- What is found at the index `i` of a list is found where a distinct list has that element.
     position_moved : (s r : List T) (i j : ℕ) → slice_get r j ≡ slice_get s i → IsDistinct eq r → position test s ≡ Some i → position test r ≡ Some j
     position_moved s r i j at d e =
-        let found = found_item_at s (Some i) (sym e) in
+        let found = found_item_at test s (Some i) (sym e) in
         position_own r d j found.0 (at ∙ found.1) found.2
 
 -- Where an item is after a move and after a swap.

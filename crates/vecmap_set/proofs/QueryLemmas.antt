@@ -31,19 +31,6 @@ module _ {T : Type 0} (test : T → Bool) where
   reference_matches s None e = tt
   reference_matches s (Some x) e = stored_matches s (Some x.now) e
 
--- Whether a test passes for some element, after the removal of one.
-module _ {T : Type 0} (s r : List T) where
-  pub any_taken : (x : T) → IsPermutation s (x ∷ r) → (f : T → Bool) → list_any f s ≡ (f x || list_any f r)
-  any_taken x moved f = list_any-IsPermutation f s (x ∷ r) moved
-
-  pub any_removed : (i : ℕ) (x : T) → r ≡ remove s i → slice_get s i ≡ Some x → (f : T → Bool) → list_any f s ≡ (f x || list_any f r)
-  any_removed i x e at =
-      any_taken x (subst (λ l. IsPermutation s (x ∷ l)) (sym e) (IsPermutation-remove s i x (slice_get_within s i x at) (sym (get_or_from_slice_get s i x x at))))
-
-  pub any_swap_removed : (i : ℕ) (x : T) → r ≡ swap_without s i → slice_get s i ≡ Some x → (f : T → Bool) → list_any f s ≡ (f x || list_any f r)
-  any_swap_removed i x e at =
-      any_taken x (subst (λ l. IsPermutation s (x ∷ l)) (sym (e ∙ ap (λ found. option_map_or (λ y. swap_remove s i y) found s) at)) (IsPermutation-swap_remove s i x (slice_get_within s i x at) (sym (get_or_from_slice_get s i x x at))))
-
 -- Whether a test that does not tell equal elements apart passes for some element, after an addition.
 module _ {T : Type 0} (eq : T → T → Bool) (f : T → Bool) (same : (x y : T) → eq x y ≡ true → f y ≡ f x) where
   or_swapped : (a b : Bool) → (a || (b || false)) ≡ (b || a)

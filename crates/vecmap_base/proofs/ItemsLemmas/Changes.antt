@@ -12,6 +12,7 @@ use Rattle.vecmap_base.specs.{Clones.AreClones, Items.put_item, Lookups.UpdatesM
 use Rattle.vecmap_base.proofs.IndexLemmas.{list_any_position, position_cons}
 use Rattle.vecmap_base.proofs.ItemsLemmas.{Members.members_from, Members.members_removed, Recursion.put_item_cons, Members.before_own, Members.Grows, Members.KeepsBefore}
 use Rattle.vecmap_base.proofs.IndexLemmas.{remove_last, slice_get_last}
+use Rattle.vecmap_base.proofs.TakenLemmas.{taken_by_shift}
 
 module _ {T : Type 0} (test : T → Bool) where
   -- Among the first `n` elements, one passes exactly if the first that passes is among them.
@@ -34,7 +35,7 @@ module _ {T : Type 0} (eq : T → T → Bool) (o : IsEquivalence eq) where
   pub members_popped : (s r : List T) (last : Option T) → s ≡ r ++ option_to_list last → IsDistinct eq s → IfSome last (λ x. UpdatesMember eq (eq x) s r false)
   members_popped s r None e d = tt
   members_popped s r (Some x) e d =
-      members_removed eq o s r (length r) x (sym (ap (λ l. remove l (length r)) e ∙ remove_last r x)) (ap (λ l. slice_get l (length r)) e ∙ slice_get_last r x) d
+      members_removed eq o s r (length r) x (taken_by_shift s r (length r) x (sym (ap (λ l. remove l (length r)) e ∙ remove_last r x)) (ap (λ l. slice_get l (length r)) e ∙ slice_get_last r x)) d
 
   stored : (s : List T) (x : T) → list_any (eq x) (put_item eq s x) ≡ true
   stored [] x = grind (arith, put_item_cons)

@@ -1,21 +1,21 @@
 -- Which elements are present after an addition and after a removal, in the words of contracts.
 use Rattle.std.proofs.lemmas.Grind.{common_steps}
-use Rattle.std.specs.{Cmp.IsEquivalence, List.IsDistinct, List.list_any, List.Sorted.IsPermutation, List.swap_remove, Map.AreApart, Map.IsKeyTest, Option.option_map_or}
+use Rattle.std.specs.{Cmp.IsEquivalence, List.IsDistinct, List.list_any, List.Sorted.IsPermutation, Map.AreApart, Map.IsKeyTest}
 use Rattle.std.specs.Set.{is_member, KeepsOthers}
-use Rattle.std.proofs.Common.{◌≡◌, ◌∙◌, ◌||◌, ◌++◌, ◌+◌, ◌<◌, ◌≤◌, ◌⊎◌, ℕ, suc, Bool, true, false, List, [], ◌∷◌, None, Option, Some, ap, arith, drop, get_or, inl, inr, is_some, length, length-append, position, refl, remove, slice_get, subst, sym, take, take_at, true≢false}
+use Rattle.std.proofs.Common.{◌≡◌, ◌∙◌, ◌||◌, ◌++◌, ◌+◌, ◌<◌, ◌≤◌, ◌⊎◌, ℕ, Bool, true, false, List, [], ◌∷◌, None, Some, ap, arith, inl, inr, is_some, length, length-append, position, refl, slice_get, subst, sym, take, true≢false}
 use Rattle.std.proofs.lemmas.Bool.{cases_Bool, cases_lt}
-use Rattle.std.proofs.lemmas.List.{length-take-le, take-set-le, take-take}
 use Rattle.std.proofs.lemmas.List.Folds.{list_any-append}
 use Rattle.std.proofs.lemmas.List.Quantifiers.{position-Some}
-use Rattle.std.proofs.lemmas.List.Sorted.{IsPermutation-remove, IsPermutation-swap_remove, list_any-IsPermutation}
+use Rattle.std.proofs.lemmas.List.Sorted.{list_any-IsPermutation}
 use Rattle.std.proofs.lemmas.Map.Keys.{IsDistinct-head}
-use Rattle.std.proofs.lemmas.Option.{get_or_from_slice_get, none-some, slice_get-get_or, slice_get_within}
-use Rattle.vecmap_base.specs.Items.{add, adds, swap_without, swap_without_first, without_first}
+use Rattle.std.proofs.lemmas.Option.{get_or_from_slice_get}
+use Rattle.vecmap_base.specs.Items.{add, adds}
 use Rattle.vecmap_base.specs.Lookups.{UpdatesMember}
 use Rattle.vecmap_base.proofs.DistinctLemmas.{Absent.none_equal, Order.distinct_rearranged}
 use Rattle.vecmap_base.proofs.IndexLemmas.{list_any_position, position_appended, position_before, position_front, position_none, stored_last}
 use Rattle.vecmap_base.proofs.ItemsLemmas.Additions.{add_absent, add_present}
 use Rattle.vecmap_base.proofs.PairsLemmas.Lookups.{compares_with}
+use Rattle.vecmap_base.proofs.TakenLemmas.{TakesAt, TakesFirst}
 
 or_false : (b : Bool) → (b || false) ≡ b
 or_false true = refl
@@ -61,14 +61,6 @@ module _ {T : Type 0} (test : T → Bool) where
   kept_grown s r (inl g) h = g.1
   kept_grown s r (inr g) h = absurd (true≢false (sym h ∙ g.3))
 
--- Up to the index of a removal, and of a removal by swap, a list stays.
-module _ {T : Type 0} where
-  front_of_removed : (s : List T) (i : ℕ) → i < length s → take i (remove s i) ≡ take i s
-  front_of_removed s i l = take_at (take i s) (drop (suc i) s) i (length-take-le i s (omega (arith, l)))
-
-  front_of_swap_removed : (s : List T) (i : ℕ) (x : T) → i < length s → take i (swap_remove s i x) ≡ take i s
-  front_of_swap_removed s i x l = grind (arith, take-take, take-set-le)
-
 module _ {T : Type 0} (eq : T → T → Bool) (o : IsEquivalence eq) where
   module _ (test : T → Bool) (respects : IsKeyTest eq test) where
     -- The facts on members from four: whether anything matches, that other queries match the same, that what is before
@@ -91,40 +83,10 @@ module _ {T : Type 0} (eq : T → T → Bool) (o : IsEquivalence eq) where
     members_stay : (s : List T) → position test s ≡ None → UpdatesMember eq test s s false
     members_stay s e = members_from s s false (list_any_position test s ∙ ap is_some e) (λ other tells apart. refl) (nothing_before test s) (nothing_grows s s)
 
-    none_within : (s : List T) (i : ℕ) → position test s ≡ Some i → slice_get s i ≡ None → ⊥
-    none_within [] i e f = none-some i e
-    none_within (x ∷ xs) i e f = none-some (get_or (x ∷ xs) i x) (sym f ∙ slice_get-get_or (x ∷ xs) i x (position-Some test (x ∷ xs) i x e).0)
-
-    passes : (s : List T) (i : ℕ) (x : T) → position test s ≡ Some i → slice_get s i ≡ Some x → test x ≡ true
-    passes s i x e at = ap test (sym (get_or_from_slice_get s i x x at)) ∙ (position-Some test s i x e).1
-
     -- After the removal of its match, a query matches nothing, and each other element is present exactly if it was.
-    pub members_of_without : (s r : List T) → r ≡ without_first test s → IsDistinct eq s → UpdatesMember eq test s r false
-    members_of_without s r e d = subst (λ l. UpdatesMember eq test s l false) (sym e) (by (position test s) refl)
-      where
-        at : (i : ℕ) (found : Option T) → position test s ≡ Some i → slice_get s i ≡ found → UpdatesMember eq test s (remove s i) false
-        at i None p f = absurd (none_within s i p f)
-        at i (Some x) p f =
-            members_taken s (remove s i) x d (passes s i x p f) (IsPermutation-remove s i x (slice_get_within s i x f) (sym (get_or_from_slice_get s i x x f)))
-            (before_own test s (remove s i) i p (front_of_removed s i (slice_get_within s i x f)))
-
-        by : (found : Option ℕ) → position test s ≡ found → UpdatesMember eq test s (option_map_or (λ i. remove s i) found s) false
-        by None p = members_stay s p
-        by (Some i) p = at i (slice_get s i) p refl
-
-    -- The same, if the last element moves to the index of the removed one.
-    pub members_of_swap_without : (s r : List T) → r ≡ swap_without_first test s → IsDistinct eq s → UpdatesMember eq test s r false
-    members_of_swap_without s r e d = subst (λ l. UpdatesMember eq test s l false) (sym e) (by (position test s) refl)
-      where
-        at : (i : ℕ) (found : Option T) → position test s ≡ Some i → slice_get s i ≡ found → UpdatesMember eq test s (option_map_or (λ x. swap_remove s i x) found s) false
-        at i None p f = absurd (none_within s i p f)
-        at i (Some x) p f =
-            members_taken s (swap_remove s i x) x d (passes s i x p f) (IsPermutation-swap_remove s i x (slice_get_within s i x f) (sym (get_or_from_slice_get s i x x f)))
-            (before_own test s (swap_remove s i x) i p (front_of_swap_removed s i x (slice_get_within s i x f)))
-
-        by : (found : Option ℕ) → position test s ≡ found → UpdatesMember eq test s (option_map_or (λ i. swap_without s i) found s) false
-        by None p = members_stay s p
-        by (Some i) p = at i (slice_get s i) p refl
+    pub members_of_first : (s r : List T) → TakesFirst s r test → IsDistinct eq s → UpdatesMember eq test s r false
+    members_of_first s r (inl n) d = subst (λ l. UpdatesMember eq test s l false) (sym n.1) (members_stay s n.0)
+    members_of_first s r (inr t) d = members_taken s r t.1 d t.4 t.2.1 (before_own test s r t.0 t.3 t.2.2)
 
     -- If nothing changes, a query that matches an element still does.
     pub members_matched : (s : List T) → list_any test s ≡ true → UpdatesMember eq test s s true
@@ -143,18 +105,8 @@ module _ {T : Type 0} (eq : T → T → Bool) (o : IsEquivalence eq) where
       ]
 
   -- After the removal of the element at an index, nothing is equal to it, and each other element is present exactly if it was.
-  pub members_removed : (s r : List T) (i : ℕ) (x : T) → r ≡ remove s i → slice_get s i ≡ Some x → IsDistinct eq s → UpdatesMember eq (eq x) s r false
-  members_removed s r i x e at d =
-      subst (λ l. UpdatesMember eq (eq x) s l false) (sym e)
-      (members_taken (eq x) (o.congr x) s (remove s i) x d (o.refl x) (IsPermutation-remove s i x (slice_get_within s i x at) (sym (get_or_from_slice_get s i x x at)))
-      (before_from (eq x) s (remove s i) i (not_behind s i x at) (front_of_removed s i (slice_get_within s i x at))))
-
-  -- The same, if the last element moves to the index.
-  pub members_swap_removed : (s r : List T) (i : ℕ) (x : T) → r ≡ swap_without s i → slice_get s i ≡ Some x → IsDistinct eq s → UpdatesMember eq (eq x) s r false
-  members_swap_removed s r i x e at d =
-      subst (λ l. UpdatesMember eq (eq x) s l false) (sym (e ∙ ap (λ f. option_map_or (λ y. swap_remove s i y) f s) at))
-      (members_taken (eq x) (o.congr x) s (swap_remove s i x) x d (o.refl x) (IsPermutation-swap_remove s i x (slice_get_within s i x at) (sym (get_or_from_slice_get s i x x at)))
-      (before_from (eq x) s (swap_remove s i x) i (not_behind s i x at) (front_of_swap_removed s i x (slice_get_within s i x at))))
+  pub members_removed : (s r : List T) (i : ℕ) (x : T) → TakesAt s r i x → IsDistinct eq s → UpdatesMember eq (eq x) s r false
+  members_removed s r i x t d = members_taken (eq x) (o.congr x) s r x d (o.refl x) t.1 (before_from (eq x) s r i (not_behind s i x t.0) t.2)
 
   -- After an addition, the element is present, and each other element exactly if it was.
   pub members_of_add : (s r : List T) (x : T) → r ≡ add eq s x → UpdatesMember eq (eq x) s r true

@@ -64,6 +64,7 @@ module _ {K V : Type 0} (test : K → Bool) where
 module _ {K V : Type 0} where
   pub keeps_front : (n : ℕ) (l : List (K × V)) → KeepsFront n l (take n l)
   keeps_front n l = record {
+    entries = refl;
     found = λ test. found_in_front test n l;
     gone = λ test. gone_from_front test n l;
     absent = λ test. absent_in_front test n l;

@@ -1,16 +1,16 @@
 -- What lookups find after a removal and after a write of a value, in the words of contracts.
-use Rattle.std.specs.{Cmp.IsEquivalence, List.AllByRecursion, List.IsDistinct, List.Sorted.IsPermutation, List.swap_remove, Map.AreApart, Map.IsKeyTest, Map.KeepsOthers, Map.keys_of, Map.set_value, Option.option_and_then, Option.option_map_or, Option.option_to_list}
-use Rattle.std.proofs.Common.{arith, ◌≡◌, ◌∙◌, ◌-◌, ◌++◌, ℕ, Bool, true, false, List, [], ◌∷◌, None, Option, Some, IfSome, IsSome, ap, cond, get_or, inl, inr, insert, is_some, length, min, refl, remove, slice_get, subst, sym, true≢false}
+use Rattle.std.specs.{Cmp.IsEquivalence, List.AllByRecursion, List.IsDistinct, List.Sorted.IsPermutation, Map.AreApart, Map.IsKeyTest, Map.KeepsOthers, Map.keys_of, Map.set_value, Option.option_and_then, Option.option_map_or}
+use Rattle.std.proofs.Common.{arith, ◌≡◌, ◌∙◌, ◌-◌, ◌++◌, ℕ, Bool, true, false, List, [], ◌∷◌, None, Option, Some, IsSome, ap, cond, inl, inr, insert, is_some, length, min, refl, remove, slice_get, subst, sym, true≢false}
 use Rattle.std.proofs.lemmas.Bool.{cases_Bool}
 use Rattle.std.proofs.lemmas.List.{map-set}
 use Rattle.std.proofs.lemmas.List.Quantifiers.{position-Some}
-use Rattle.std.proofs.lemmas.List.Sorted.{IsPermutation-append_comm, IsPermutation-insert, IsPermutation-remove, IsPermutation-swap_remove}
+use Rattle.std.proofs.lemmas.List.Sorted.{IsPermutation-insert}
 use Rattle.std.proofs.lemmas.Map.{NonePasses, lookup-none, lookup-set_value, none_passes_from_lookup}
 use Rattle.std.proofs.lemmas.Map.Entries.{none_past_head}
 use Rattle.std.proofs.lemmas.Map.Keys.{IsDistinct-cons, IsDistinct-tail}
-use Rattle.std.proofs.lemmas.Option.{get_or_from_slice_get, none-some, slice_get-get_or, slice_get_within}
-use Rattle.vecmap_base.specs.{Items.swap_without, Lookups.KeepsLookups, Lookups.UpdatesBy}
-use Rattle.vecmap_base.specs.Pairs.{HasDistinctKeys, index_by, index_of, lookup, lookup_by, put, put_at, put_key, swap_without_by, value_at, with_pair, with_value, without_by}
+use Rattle.std.proofs.lemmas.Option.{get_or_from_slice_get}
+use Rattle.vecmap_base.specs.{Lookups.KeepsLookups, Lookups.UpdatesBy}
+use Rattle.vecmap_base.specs.Pairs.{HasDistinctKeys, index_by, index_of, lookup, lookup_by, put, put_at, put_key, value_at, with_pair, with_value, without_by}
 use Rattle.vecmap_base.proofs.PairsLemmas.ByIndex.{index_by_is, index_by_none, is_some_lookup_by, lookup_by_index, put_key_by_index, set_value_by_index, without_by_index}
 use Rattle.vecmap_base.proofs.PairsLemmas.Distinct.{distinct_keys_rearranged, distinct_keys_set_value, distinct_put}
 use Rattle.vecmap_base.proofs.PairsLemmas.Keys.{index_of_is}
@@ -18,6 +18,7 @@ use Rattle.vecmap_base.proofs.PairsLemmas.Lookups.{compares_with, same_answer, u
 use Rattle.vecmap_base.proofs.DistinctLemmas.Additions.{distinct_replace}
 use Rattle.vecmap_base.proofs.PairsLemmas.Puts.{put_absent}
 use Rattle.vecmap_base.proofs.PairsLemmas.Order.{lookup_by_rearranged, pair_of_value}
+use Rattle.vecmap_base.proofs.TakenLemmas.{TakesFirst, first_by_shift}
 
 module _ {K V : Type 0} (eq : K → K → Bool) (o : IsEquivalence eq) (test : K → Bool) (respects : IsKeyTest eq test) where
   -- The record from three of its facts: what the query finds, that other queries find the same, and distinct keys.
@@ -45,60 +46,22 @@ module _ {K V : Type 0} (eq : K → K → Bool) (o : IsEquivalence eq) (test : K
             ∙ lookup_by_rearranged eq o test respects l (p ∷ s) moved d ∙ sym (ap (λ b. cond b None (lookup_by test l)) n)
       ]
 
-  -- The same of the removal of the pair at an index.
-  pub lookup_by_removed : (l m : List (K × V)) (i : ℕ) (p : K × V) → m ≡ remove l i → slice_get l i ≡ Some p → HasDistinctKeys eq l → lookup_by test m ≡ cond (test p.0) None (lookup_by test l)
-  lookup_by_removed l m i p e at d =
-      ap (lookup_by test) e ∙ lookup_by_taken l (remove l i) p d (IsPermutation-remove l i p (slice_get_within l i p at) (sym (get_or_from_slice_get l i p p at)))
-
-  -- The same, if the last pair moves to the index.
-  pub lookup_by_swap_removed : (l m : List (K × V)) (i : ℕ) (p : K × V) → m ≡ swap_without l i → slice_get l i ≡ Some p → HasDistinctKeys eq l → lookup_by test m ≡ cond (test p.0) None (lookup_by test l)
-  lookup_by_swap_removed l m i p e at d = grind (arith, lookup_by_taken, IsPermutation-swap_remove, slice_get_within, get_or_from_slice_get)
-
-  key_passes : (l : List (K × V)) (i : ℕ) (p : K × V) → index_by test l ≡ Some i → slice_get l i ≡ Some p → test p.0 ≡ true
+  -- The key of the pair at the index that a query finds passes.
+  pub key_passes : (l : List (K × V)) (i : ℕ) (p : K × V) → index_by test l ≡ Some i → slice_get l i ≡ Some p → test p.0 ≡ true
   key_passes l i p e at = ap (λ q. test q.0) (sym (get_or_from_slice_get l i p p at)) ∙ (position-Some (λ q. test q.0) l i p (sym (index_by_is test l) ∙ e)).1
-
-  -- A query whose match is at the index of the removed pair finds nothing.
-  pub lookup_by_gone : (l m : List (K × V)) (i : ℕ) (p : K × V) → m ≡ remove l i → slice_get l i ≡ Some p → HasDistinctKeys eq l → index_by test l ≡ Some i → lookup_by test m ≡ None
-  lookup_by_gone l m i p e at d found = lookup_by_removed l m i p e at d ∙ ap (λ b. cond b None (lookup_by test l)) (key_passes l i p found at)
-
-  -- The same, if the last pair moves to the index.
-  pub lookup_by_swap_removed_out : (l m : List (K × V)) (i : ℕ) (p : K × V) → m ≡ swap_without l i → slice_get l i ≡ Some p → HasDistinctKeys eq l → index_by test l ≡ Some i → lookup_by test m ≡ None
-  lookup_by_swap_removed_out l m i p e at d found = lookup_by_swap_removed l m i p e at d ∙ ap (λ b. cond b None (lookup_by test l)) (key_passes l i p found at)
 
   -- If nothing passes, nothing is removed.
   updates_nothing : (l : List (K × V)) → index_by test l ≡ None → UpdatesBy eq test l l None
   updates_nothing l e = updates_from l l None (lookup_by_index test l ∙ ap (option_and_then (value_at l)) e) (λ other tells apart. refl) (λ d. d)
 
-  -- The index of a match is in range.
-  no_pair_within : (l : List (K × V)) (i : ℕ) → index_by test l ≡ Some i → slice_get l i ≡ None → ⊥
-  no_pair_within [] i e f = none-some i e
-  no_pair_within (p ∷ ps) i e f =
-      let within = (position-Some (λ q. test q.0) (p ∷ ps) i p (sym (index_by_is test (p ∷ ps)) ∙ e)).0 in
-      none-some (get_or (p ∷ ps) i p) (sym f ∙ slice_get-get_or (p ∷ ps) i p within)
-
   -- After the removal of its match from a list of distinct keys, a query matches nothing, and each other key has what it had.
-  pub updates_without : (l : List (K × V)) → HasDistinctKeys eq l → UpdatesBy eq test l (without_by test l) None
-  updates_without l d = subst (λ m. UpdatesBy eq test l m None) (sym (without_by_index test l)) (by (index_by test l) refl)
-    where
-      at : (i : ℕ) (found : Option (K × V)) → index_by test l ≡ Some i → slice_get l i ≡ found → UpdatesBy eq test l (remove l i) None
-      at i None e f = absurd (no_pair_within l i e f)
-      at i (Some p) e f = updates_taken l (remove l i) p d (key_passes l i p e f) (IsPermutation-remove l i p (slice_get_within l i p f) (sym (get_or_from_slice_get l i p p f)))
+  pub updates_of_first : (l m : List (K × V)) → TakesFirst l m (λ p. test p.0) → HasDistinctKeys eq l → UpdatesBy eq test l m None
+  updates_of_first l m (inl n) d = subst (λ k. UpdatesBy eq test l k None) (sym n.1) (updates_nothing l (index_by_is test l ∙ n.0))
+  updates_of_first l m (inr t) d = updates_taken l m t.1 d t.4 t.2.1
 
-      by : (found : Option ℕ) → index_by test l ≡ found → UpdatesBy eq test l (option_map_or (λ i. remove l i) found l) None
-      by None e = updates_nothing l e
-      by (Some i) e = at i (slice_get l i) e refl
-
-  -- The same, if the last pair moves to the index of the removed one.
-  pub updates_swap_without : (l : List (K × V)) → HasDistinctKeys eq l → UpdatesBy eq test l (swap_without_by test l) None
-  updates_swap_without l d = by (index_by test l) refl
-    where
-      at : (i : ℕ) (found : Option (K × V)) → index_by test l ≡ Some i → slice_get l i ≡ found → UpdatesBy eq test l (option_map_or (λ p. swap_remove l i p) found l) None
-      at i None e f = absurd (no_pair_within l i e f)
-      at i (Some p) e f = updates_taken l (swap_remove l i p) p d (key_passes l i p e f) (IsPermutation-swap_remove l i p (slice_get_within l i p f) (sym (get_or_from_slice_get l i p p f)))
-
-      by : (found : Option ℕ) → index_by test l ≡ found → UpdatesBy eq test l (option_map_or (λ i. swap_without l i) found l) None
-      by None e = updates_nothing l e
-      by (Some i) e = at i (slice_get l i) e refl
+  -- The same of a list that is known to be what the removal leaves.
+  pub updates_of_without : (l m : List (K × V)) → m ≡ without_by test l → HasDistinctKeys eq l → UpdatesBy eq test l m None
+  updates_of_without l m e = updates_of_first l m (first_by_shift l m (λ p. test p.0) (e ∙ without_by_index test l ∙ ap (λ found. option_map_or (λ i. remove l i) found l) (index_by_is test l)))
 
   -- After a write of the value of a present key, the key has the value, and each other key has what it had.
   pub updates_write : (l : List (K × V)) (v : V) → IsSome (lookup_by test l) → UpdatesBy eq test l (set_value test l v) (Some v)
@@ -131,13 +94,6 @@ module _ {K V : Type 0} (eq : K → K → Bool) (o : IsEquivalence eq) (test : K
       let here : set_value test m v ≡ with_value m i v = set_value_by_index test m v ∙ ap (λ o. option_map_or (λ j. with_value m j v) o m) at in
       let next = subst (λ n. UpdatesBy eq test m n (Some v)) here (updates_write m v some) in
       updates_from l (with_value m i v) (Some v) next.own (λ other tells apart. next.queries other tells apart ∙ u.queries other tells apart) (λ d. next.distinct (u.distinct d))
-
-  -- The same of lists that are known to be what the removals leave.
-  pub updates_of_without : (l m : List (K × V)) → m ≡ without_by test l → HasDistinctKeys eq l → UpdatesBy eq test l m None
-  updates_of_without l m e d = subst (λ n. UpdatesBy eq test l n None) (sym e) (updates_without l d)
-
-  pub updates_of_swap_without : (l m : List (K × V)) → m ≡ swap_without_by test l → HasDistinctKeys eq l → UpdatesBy eq test l m None
-  updates_of_swap_without l m e d = subst (λ n. UpdatesBy eq test l n None) (sym e) (updates_swap_without l d)
 
   -- If nothing changes, a query has the value that it finds.
   pub updates_matched : (l : List (K × V)) → UpdatesBy eq test l l (lookup_by test l)
@@ -208,7 +164,7 @@ module _ {K V : Type 0} (eq : K → K → Bool) (o : IsEquivalence eq) where
           (λ h. distinct_keys_rearranged eq o ((k, v) ∷ s) (insert s j (k, v)) moved all)
 
       left : UpdatesBy eq (eq k) l (option_map_or (λ j. remove l j) (index_of eq l k) l) None
-      left = subst (λ n. UpdatesBy eq (eq k) l n None) (without_by_index (eq k) l) (updates_without eq o (eq k) (o.congr k) l d)
+      left = updates_of_first eq o (eq k) (o.congr k) l _ (first_by_shift l _ (λ p. eq k p.0) (ap (λ f. option_map_or (λ j. remove l j) f l) (index_by_is (eq k) l))) d
 
       by : (found : Option ℕ) → index_of eq l k ≡ found → UpdatesBy eq (eq k) l (put_at eq l i k v) (Some v)
       by None f =
@@ -217,9 +173,3 @@ module _ {K V : Type 0} (eq : K → K → Bool) (o : IsEquivalence eq) where
       by (Some j) f =
           subst (λ r. UpdatesBy eq (eq k) l (option_map_or (λ j. insert (remove l j) (min i (length l - 1)) (k, v)) r (insert l i (k, v))) (Some v)) (sym f)
           (inserted (remove l j) (min i (length l - 1)) (subst (λ r. UpdatesBy eq (eq k) l (option_map_or (λ j. remove l j) r l) None) f left))
-
--- After the last pair was taken, if there was one, a query that matches its key finds nothing.
-pub found_after_pop : {K V : Type 0} (l m : List (K × V)) (last : Option (K × V)) → l ≡ m ++ option_to_list last
-    → IfSome last (λ p. (test : K → Bool) (eq : K → K → Bool) → HasDistinctKeys eq l → IsKeyTest eq test → IsEquivalence eq → lookup_by test m ≡ cond (test p.0) None (lookup_by test l))
-found_after_pop l m None e = tt
-found_after_pop l m (Some p) e = λ test eq d respects o. lookup_by_taken eq o test respects l m p d (subst (λ n. IsPermutation n (p ∷ m)) (sym e) (IsPermutation-append_comm m (p ∷ [])))

@@ -1,7 +1,7 @@
 use Rattle.vecmap_map.proofs.EntryLemmas.Puts.{entries_swap_without_by, entries_with_put, entries_without_by, entry_value_is}
 use Rattle.vecmap_base.proofs.PairsLemmas.AtIndices.{adds_key}
 use Rattle.vecmap_base.proofs.PairsLemmas.Lookups.{updates_of_put}
-use Rattle.vecmap_base.proofs.PairsLemmas.Updates.{updates_of_swap_without, updates_of_without}
+use Rattle.vecmap_base.proofs.RemovalLemmas.{removes_by, swap_removes_by}
 use Rattle.vecmap_map.proofs.VecMap.entry.Goals as goal
 
 pub returns-clause-put : goal.returns-clause-put
@@ -14,16 +14,16 @@ pub returns-clause-value : goal.returns-clause-value
 returns-clause-value g c = entry_value_is g.K.PartialEq.eq _ _ _ c.over.ensures.unchanged c.over.ensures.index
 
 pub returns-clause-removal : goal.returns-clause-removal
-returns-clause-removal g c = λ d.
+returns-clause-removal g c =
     let eq = g.K.PartialEq.eq in
     let o = g.met.K.Eq.laws in
-    updates_of_without eq o (eq c.args.key) (o.congr c.args.key) _ _ (entries_without_by eq _ _ _ c.over.ensures.unchanged c.over.ensures.index) d
+    removes_by (eq c.args.key) _ eq o (o.congr c.args.key) _ (entries_without_by eq _ _ _ c.over.ensures.unchanged c.over.ensures.index)
 
 pub returns-clause-swap_removal : goal.returns-clause-swap_removal
-returns-clause-swap_removal g c = λ d.
+returns-clause-swap_removal g c =
     let eq = g.K.PartialEq.eq in
     let o = g.met.K.Eq.laws in
-    updates_of_swap_without eq o (eq c.args.key) (o.congr c.args.key) _ _ (entries_swap_without_by eq _ _ _ c.over.ensures.unchanged c.over.ensures.index) d
+    swap_removes_by (eq c.args.key) _ eq o (o.congr c.args.key) _ (entries_swap_without_by eq _ _ _ c.over.ensures.unchanged c.over.ensures.index)
 
 pub returns-clause-keys : goal.returns-clause-keys
 returns-clause-keys g c = λ v. adds_key g.K.PartialEq.eq g.met.K.Eq.laws _ _ _ _ (returns-clause-put g c v)

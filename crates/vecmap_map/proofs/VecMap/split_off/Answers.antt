@@ -3,8 +3,8 @@ use Rattle.std.proofs.lemmas.List.{take-append-drop}
 use Rattle.vecmap_base.proofs.PairsLemmas.Parts.{keeps_front_of, keys_of_parts, lookup_by_append}
 use Rattle.vecmap_map.proofs.VecMap.split_off.Goals as goal
 
-pub returns-clause-lookups : goal.returns-clause-lookups
-returns-clause-lookups g c = keeps_front_of c.args.at c.args.self.now.entries _ (search rules)
+pub returns-clause-front : goal.returns-clause-front
+returns-clause-front g c = keeps_front_of c.args.at c.args.self.now.entries _ (search rules)
 
 pub returns-clause-part_lookups : goal.returns-clause-part_lookups
 returns-clause-part_lookups g c = λ test.

@@ -2,5 +2,5 @@ use Rattle.std.proofs.Common.{rules}
 use Rattle.vecmap_base.proofs.PairsLemmas.Parts.{keeps_front_of}
 use Rattle.vecmap_map.proofs.VecMap.truncate.Goals as goal
 
-pub returns-clause-lookups : goal.returns-clause-lookups
-returns-clause-lookups g c = keeps_front_of c.args.len c.args.self.now.entries _ (search rules)
+pub returns-clause-front : goal.returns-clause-front
+returns-clause-front g c = keeps_front_of c.args.len c.args.self.now.entries _ (search rules)

@@ -1,0 +1,85 @@
+-- The records of removals of pairs, from the list that is left.
+use Rattle.std.specs.{Cmp.IsEquivalence, List.Sorted.IsPermutation, Map.IsKeyTest, Option.option_map, Option.option_map_or, Option.option_to_list}
+use Rattle.std.proofs.Common.{◌≡◌, ◌∙◌, ◌+◌, ◌-◌, ◌++◌, ℕ, Bool, List, ◌∷◌, None, Option, Some, IfSome, ap, cond, if◌then◌else◌, is_some, length, remove, slice_get, sym, subst, take}
+use Rattle.std.proofs.lemmas.Map.Keys.{IsDistinct-tail}
+use Rattle.vecmap_base.specs.Items.{swap_without}
+use Rattle.vecmap_base.specs.Pairs.{HasDistinctKeys, lookup_by, lookup_pair_by, swap_without_by, without_by}
+use Rattle.vecmap_base.specs.Removals.{FindsPair, ForgetsIndex, ForgetsKey, RemovesAt, RemovesBy, RemovesLast, SwapRemovesAt, SwapRemovesBy}
+use Rattle.vecmap_base.proofs.IndexLemmas.{list_any_position}
+use Rattle.vecmap_base.proofs.PairsLemmas.AtIndices.{shifts_indices, shifts_without}
+use Rattle.vecmap_base.proofs.PairsLemmas.ByIndex.{index_by_is, is_some_lookup_by, is_some_lookup_pair_by, value_of_pair_by, without_by_index}
+use Rattle.vecmap_base.proofs.PairsLemmas.Distinct.{distinct_keys_rearranged, distinct_keys_remove}
+use Rattle.vecmap_base.proofs.PairsLemmas.Parts.{keeps_front_of}
+use Rattle.vecmap_base.proofs.PairsLemmas.Updates.{key_passes, lookup_by_taken, updates_of_first}
+use Rattle.vecmap_base.proofs.TakenLemmas.{TakesFirst, first_by_shift, first_by_swap, last_read, last_taken, len_of_first, len_popped, one_less, taken_by_shift, taken_by_swap}
+
+module _ {K V : Type 0} (test : K → Bool) (l : List (K × V)) where
+  pub finds_pair : (r : Option (K × V)) → r ≡ lookup_pair_by test l → FindsPair test l r
+  finds_pair r e = record {
+    pair = e;
+    found = ap is_some e ∙ is_some_lookup_pair_by test l;
+    value = ap (option_map (λ p. p.1)) e ∙ value_of_pair_by test l;
+  }
+
+  module _ (eq : K → K → Bool) (o : IsEquivalence eq) (respects : IsKeyTest eq test) (m : List (K × V)) where
+    len_by : TakesFirst l m (λ p. test p.0) → length m + (if is_some (lookup_by test l) then 1 else 0) ≡ length l
+    len_by first =
+        ap (λ b. length m + (if b then 1 else 0)) (is_some_lookup_by test l ∙ ap is_some (index_by_is test l) ∙ sym (list_any_position (λ p. test p.0) l))
+        ∙ len_of_first l m (λ p. test p.0) first
+
+    pub removes_by : m ≡ without_by test l → RemovesBy eq test l m
+    removes_by e =
+        let first = first_by_shift l m (λ p. test p.0) (e ∙ without_by_index test l ∙ ap (λ found. option_map_or (λ i. remove l i) found l) (index_by_is test l)) in
+        let updates = updates_of_first eq o test respects l m first in
+        record { entries = e; updates = updates; distinct = λ d. (updates d).distinct d; len = len_by first; indices = shifts_without test l m e }
+
+    pub swap_removes_by : m ≡ swap_without_by test l → SwapRemovesBy eq test l m
+    swap_removes_by e =
+        let first = first_by_swap l m (λ p. test p.0) (e ∙ ap (λ found. option_map_or (λ i. swap_without l i) found l) (index_by_is test l)) in
+        let updates = updates_of_first eq o test respects l m first in
+        record { entries = e; updates = updates; distinct = λ d. (updates d).distinct d; len = len_by first }
+
+module _ {K V : Type 0} (l m : List (K × V)) where
+  forgets_key : (p : K × V) → IsPermutation l (p ∷ m) → ForgetsKey p.0 l m
+  forgets_key p moved test eq d respects o = lookup_by_taken eq o test respects l m p d moved
+
+  forgets_index : (i : ℕ) (p : K × V) → slice_get l i ≡ Some p → IsPermutation l (p ∷ m) → ForgetsIndex i l m
+  forgets_index i p at moved test eq d respects o found =
+      forgets_key p moved test eq d respects o ∙ ap (λ b. cond b None (lookup_by test l)) (key_passes eq o test respects l i p found at)
+
+  pub removes_at : (i : ℕ) (p : K × V) → m ≡ remove l i → slice_get l i ≡ Some p → RemovesAt i l p m
+  removes_at i p e at =
+      let moved = (taken_by_shift l m i p e at).1 in
+      record {
+        pair = at;
+        entries = e;
+        lookups = forgets_key p moved;
+        gone = forgets_index i p at moved;
+        distinct = λ eq d. subst (HasDistinctKeys eq) (sym e) (distinct_keys_remove eq l i d);
+        len = one_less l m p moved;
+        indices = shifts_indices l m i e;
+      }
+
+  pub swap_removes_at : (i : ℕ) (p : K × V) → m ≡ swap_without l i → slice_get l i ≡ Some p → SwapRemovesAt i l p m
+  swap_removes_at i p e at =
+      let moved = (taken_by_swap l m i p e at).1 in
+      record {
+        pair = at;
+        entries = e;
+        lookups = forgets_key p moved;
+        gone = forgets_index i p at moved;
+        distinct = λ eq o d. IsDistinct-tail eq p.0 _ (distinct_keys_rearranged eq o l (p ∷ m) moved d);
+        len = one_less l m p moved;
+      }
+
+  pub removes_last : (r : Option (K × V)) → m ≡ take (length l - 1) l → l ≡ m ++ option_to_list r → RemovesLast l r m
+  removes_last r front parts = record {
+    pair = last_read l m r front parts;
+    front = keeps_front_of (length l - 1) l m front;
+    removal = key r parts;
+    len = len_popped l m r parts;
+  }
+    where
+      key : (last : Option (K × V)) → l ≡ m ++ option_to_list last → IfSome last (λ p. ForgetsKey p.0 l m)
+      key None f = tt
+      key (Some p) f = forgets_key p (last_taken l m p f)

@@ -1,0 +1,82 @@
+-- What the removal of one pair leaves of a list of pairs, one record for each kind of removal. `eq` is the `==` of keys, and
+-- a test is what a query does with a key.
+use Rattle.std.specs.Prelude.{◌≡◌, ◌+◌, ◌-◌, ℕ, Bool, IfSome, List, None, Option, Some, cond, if◌then◌else◌, is_some, length, option_map, remove, slice_get}
+use Rattle.std.specs.Cmp.{IsEquivalence}
+use Rattle.std.specs.Map.{IsKeyTest}
+use Rattle.vecmap_base.specs.Indices.{ShiftsIndices}
+use Rattle.vecmap_base.specs.Items.{swap_without}
+use Rattle.vecmap_base.specs.Lookups.{KeepsFront, UpdatesBy}
+use Rattle.vecmap_base.specs.Pairs.{HasDistinctKeys, index_by, lookup_by, lookup_pair_by, swap_without_by, without_by}
+
+module _ {K V : Type 0} where
+  -- Example: `(1,a)` of `[(1,a), (2,b)]` for the query 1.
+  -- The pair that a query finds, if there is one.
+  pub record FindsPair (test : K → Bool) (l : List (K × V)) (r : Option (K × V)) : Type 0 where
+    pub pair : r ≡ lookup_pair_by test l
+    -- The same as a lookup of the value says it: whether there is one, and which.
+    pub found : is_some r ≡ is_some (lookup_by test l)
+    pub value : option_map (λ p. p.1) r ≡ lookup_by test l
+
+  -- Example: from `[(1,a), (2,b)]` to `[(2,b)]` for the query 1.
+  -- The list `m` is the list `l` without the first pair whose key passes the test; the pairs after it move by one index.
+  pub record RemovesBy (eq : K → K → Bool) (test : K → Bool) (l m : List (K × V)) : Type 0 where
+    pub entries : m ≡ without_by test l
+    -- What lookups find: nothing for the key, and for each other key what they found.
+    pub updates : HasDistinctKeys eq l → UpdatesBy eq test l m None
+    pub distinct : HasDistinctKeys eq l → HasDistinctKeys eq m
+    pub len : length m + (if is_some (lookup_by test l) then 1 else 0) ≡ length l
+    -- At which indices the other keys are.
+    pub indices : IfSome (index_by test l) (λ i. ShiftsIndices i l m)
+
+  -- Example: from `[(1,a), (2,b), (3,c)]` to `[(3,c), (2,b)]` for the query 1.
+  -- The list `m` is the list `l` without the first pair whose key passes the test; the last pair moves to its index.
+  pub record SwapRemovesBy (eq : K → K → Bool) (test : K → Bool) (l m : List (K × V)) : Type 0 where
+    pub entries : m ≡ swap_without_by test l
+    -- What lookups find: nothing for the key, and for each other key what they found.
+    pub updates : HasDistinctKeys eq l → UpdatesBy eq test l m None
+    pub distinct : HasDistinctKeys eq l → HasDistinctKeys eq m
+    pub len : length m + (if is_some (lookup_by test l) then 1 else 0) ≡ length l
+
+  -- Example: the key 1, from `[(1,a), (2,b)]` to `[(2,b)]`.
+  -- A query that matches the key `k` finds nothing in the list `m`, and any other query what it found in `l`.
+  abbrev pub ForgetsKey : K → List (K × V) → List (K × V) → Type 0
+  ForgetsKey k l m = (test : K → Bool) (eq : K → K → Bool) → HasDistinctKeys eq l → IsKeyTest eq test → IsEquivalence eq → lookup_by test m ≡ cond (test k) None (lookup_by test l)
+
+  -- Example: the index 0, from `[(1,a), (2,b)]` to `[(2,b)]`.
+  -- A query whose match was at the index `i` of the list `l` finds nothing in the list `m`.
+  abbrev pub ForgetsIndex : ℕ → List (K × V) → List (K × V) → Type 0
+  ForgetsIndex i l m = (test : K → Bool) (eq : K → K → Bool) → HasDistinctKeys eq l → IsKeyTest eq test → IsEquivalence eq → index_by test l ≡ Some i → lookup_by test m ≡ None
+
+  -- Example: from `[(1,a), (2,b)]` to `[(2,b)]` for the index 0 and the pair `(1,a)`.
+  -- The list `m` is the list `l` without its pair `p` at the index `i`; the pairs after it move by one index.
+  pub record RemovesAt (i : ℕ) (l : List (K × V)) (p : K × V) (m : List (K × V)) : Type 0 where
+    pub pair : slice_get l i ≡ Some p
+    pub entries : m ≡ remove l i
+    -- What lookups find, by the removed key and by its index.
+    pub lookups : ForgetsKey p.0 l m
+    pub gone : ForgetsIndex i l m
+    pub distinct : (eq : K → K → Bool) → HasDistinctKeys eq l → HasDistinctKeys eq m
+    pub len : length m + 1 ≡ length l
+    -- At which indices the other keys are.
+    pub indices : ShiftsIndices i l m
+
+  -- Example: from `[(1,a), (2,b), (3,c)]` to `[(3,c), (2,b)]` for the index 0 and the pair `(1,a)`.
+  -- The list `m` is the list `l` without its pair `p` at the index `i`; the last pair moves to that index.
+  pub record SwapRemovesAt (i : ℕ) (l : List (K × V)) (p : K × V) (m : List (K × V)) : Type 0 where
+    pub pair : slice_get l i ≡ Some p
+    pub entries : m ≡ swap_without l i
+    -- What lookups find, by the removed key and by its index.
+    pub lookups : ForgetsKey p.0 l m
+    pub gone : ForgetsIndex i l m
+    pub distinct : (eq : K → K → Bool) → IsEquivalence eq → HasDistinctKeys eq l → HasDistinctKeys eq m
+    pub len : length m + 1 ≡ length l
+
+  -- Example: from `[(1,a), (2,b)]` to `[(1,a)]`, with `Some (2,b)`.
+  -- The list `m` is the list `l` without its last pair, which is returned, if there is one.
+  pub record RemovesLast (l : List (K × V)) (r : Option (K × V)) (m : List (K × V)) : Type 0 where
+    pub pair : r ≡ slice_get l (length l - 1)
+    -- The list, with what lookups find by the index of the match.
+    pub front : KeepsFront (length l - 1) l m
+    -- What lookups find by the removed key.
+    pub removal : IfSome r (λ p. ForgetsKey p.0 l m)
+    pub len : length m + (if is_some r then 1 else 0) ≡ length l

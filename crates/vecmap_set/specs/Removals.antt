@@ -1,0 +1,92 @@
+-- What the removal of one element leaves of a set, one record for each kind of removal. `eq` is the `==` of the elements,
+-- and a test is what a query does with an element.
+use Rattle.std.specs.Prelude.{◌≡◌, ◌&&◌, ◌+◌, ◌-◌, ◌<◌, ◌||◌, ℕ, Bool, IfSome, IsTrue, List, Option, Some, false, if◌then◌else◌, is_some, length, min, nat_lt, position, remove, slice_get, take, true, unwrap_or}
+use Rattle.std.specs.List.{IsDistinct, list_any}
+use Rattle.vecmap_base.specs.Items.{stored_first, swap_without, swap_without_first, without_first}
+use Rattle.vecmap_base.specs.Lookups.{UpdatesMember}
+use Rattle.vecmap_set.specs.Indices.{KeepsMatchIndicesBelow, MovesItemIndex, ShiftsItems}
+use Rattle.vecmap_set.specs.Tests.{AgreesOnEquals}
+
+module _ {T : Type 0} where
+  -- Example: 2 of `[1, 2]` for the query 2.
+  -- The element that a query finds, if there is one.
+  pub record FindsItem (test : T → Bool) (s : List T) (r : Option T) : Type 0 where
+    pub element : r ≡ stored_first test s
+    pub found : is_some r ≡ list_any test s
+    pub matched : IfSome r (λ x. IsTrue (test x))
+
+  -- Example: from `[1, 2]` to `[2]` for 1.
+  -- Tests pass for an element of the list `s` exactly if they pass for `x` or for an element of the list `r`.
+  abbrev pub Takes : T → List T → List T → Type 0
+  Takes x s r = (f : T → Bool) → list_any f s ≡ (f x || list_any f r)
+
+  -- Example: from `[1, 2, 3]` to `[1, 2]` for the length 2.
+  -- The list `r` has the first `n` elements of the list `s`.
+  pub record KeepsFrontItems (n : ℕ) (s r : List T) : Type 0 where
+    pub elements : r ≡ take n s
+    -- What queries find, by the index of the match.
+    pub matches : (test : T → Bool) → list_any test r ≡ (list_any test s && nat_lt (unwrap_or (position test s) 0) n)
+    pub present : (test : T → Bool) (i : ℕ) → position test s ≡ Some i → i < n → list_any test r ≡ true
+    pub len : length r ≡ min n (length s)
+    pub indices : KeepsMatchIndicesBelow n s r
+
+module _ {T : Type 0} (eq : T → T → Bool) where
+  -- Example: from `[1, 2, 3]` to `[2, 3]` for the query 1.
+  -- The list `r` is the list `s` without the element that passes the test; the elements after it move by one index.
+  pub record RemovesItemBy (test : T → Bool) (s r : List T) : Type 0 where
+    pub elements : r ≡ without_first test s
+    pub distinct : IsDistinct eq r
+    -- What queries find: nothing for the element, and for each other what they found.
+    pub updates : UpdatesMember eq test s r false
+    -- For which tests an element passes, if they do not tell equal elements apart.
+    pub any : (f : T → Bool) → AgreesOnEquals eq f → (x : T) → IsTrue (test x) → list_any f s ≡ ((list_any test s && f x) || list_any f r)
+    pub len : length r + (if list_any test s then 1 else 0) ≡ length s
+
+  -- Example: from `[1, 2, 3]` to `[3, 2]` for the query 1.
+  -- The list `r` is the list `s` without the element that passes the test; the last element moves to its index.
+  pub record SwapRemovesItemBy (test : T → Bool) (s r : List T) : Type 0 where
+    pub elements : r ≡ swap_without_first test s
+    pub distinct : IsDistinct eq r
+    -- What queries find: nothing for the element, and for each other what they found.
+    pub updates : UpdatesMember eq test s r false
+    -- For which tests an element passes, if they do not tell equal elements apart.
+    pub any : (f : T → Bool) → AgreesOnEquals eq f → (x : T) → IsTrue (test x) → list_any f s ≡ ((list_any test s && f x) || list_any f r)
+    pub len : length r + (if list_any test s then 1 else 0) ≡ length s
+
+  -- Example: from `[1, 2, 3]` to `[2, 3]` for the index 0 and the element 1.
+  -- The list `r` is the list `s` without its element `x` at the index `i`; the elements after it move by one index.
+  pub record RemovesItemAt (i : ℕ) (s : List T) (x : T) (r : List T) : Type 0 where
+    pub element : slice_get s i ≡ Some x
+    pub elements : r ≡ remove s i
+    pub distinct : IsDistinct eq r
+    -- What queries and tests find.
+    pub updates : UpdatesMember eq (eq x) s r false
+    pub any : Takes x s r
+    pub len : length r + 1 ≡ length s
+    -- At which indices the other elements are.
+    pub indices : KeepsMatchIndicesBelow i s r
+    pub shifts : ShiftsItems i s r
+
+  -- Example: from `[1, 2, 3]` to `[3, 2]` for the index 0 and the element 1.
+  -- The list `r` is the list `s` without its element `x` at the index `i`; the last element moves to that index.
+  pub record SwapRemovesItemAt (i : ℕ) (s : List T) (x : T) (r : List T) : Type 0 where
+    pub element : slice_get s i ≡ Some x
+    pub elements : r ≡ swap_without s i
+    pub distinct : IsDistinct eq r
+    -- What queries and tests find.
+    pub updates : UpdatesMember eq (eq x) s r false
+    pub any : Takes x s r
+    pub len : length r + 1 ≡ length s
+    -- At which index the last element is.
+    pub moves : i < length s - 1 → MovesItemIndex eq (length s - 1) i s r
+
+  -- Example: from `[1, 2]` to `[1]`, with `Some 2`.
+  -- The list `r` is the list `s` without its last element, which is returned, if there is one.
+  pub record RemovesLastItem (s : List T) (last : Option T) (r : List T) : Type 0 where
+    pub element : last ≡ slice_get s (length s - 1)
+    pub front : KeepsFrontItems (length s - 1) s r
+    pub distinct : IsDistinct eq r
+    -- What queries and tests find, by the removed element.
+    pub updates : IfSome last (λ x. UpdatesMember eq (eq x) s r false)
+    pub any : IfSome last (λ x. Takes x s r)
+    pub len : length r + (if is_some last then 1 else 0) ≡ length s
