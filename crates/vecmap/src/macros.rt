@@ -1,15 +1,11 @@
 //! The macros `vecmap!` and `vecset!`, and the functions that they call.
-ghost use Rattle.std.specs.Prelude.{◌≡◌, ◌+◌, ◌||◌, Bool, IsTrue, OnErr, OnOk, Some, if◌then◌else◌, length, true};
-ghost use Rattle.std.specs.List.{IsDistinct, list_any};
+ghost use Rattle.std.specs.Prelude.{◌≡◌, IsTrue, OnErr, OnOk, true};
+ghost use Rattle.std.specs.List.{IsDistinct};
 ghost use Rattle.std.specs.Set.{is_member};
-ghost use Rattle.vecmap_base.specs.Indices.{AddsKey};
-ghost use Rattle.vecmap_base.specs.Items.{add};
-ghost use Rattle.vecmap_base.specs.Lookups.{Updates, UpdatesMember};
-ghost use Rattle.vecmap_base.specs.Pairs.{HasDistinctKeys, put};
+ghost use Rattle.vecmap_base.specs.Insertions.{AddsKey};
 ghost use Rattle.vecmap_map.specs.Contents.{KeepsRoom, Refuses};
 ghost use Rattle.vecmap_set.specs.Contents.{KeepsRoom as SetKeepsRoom, Refuses as SetRefuses};
-ghost use Rattle.vecmap_set.specs.Indices.{KeepsMatchIndices};
-ghost use Rattle.vecmap_set.specs.Tests.{AgreesOnEquals};
+ghost use Rattle.vecmap_set.specs.Insertions.{AddsItem};
 
 use crate::{VecMap, VecSet};
 use std::alloc::AllocError;
@@ -92,14 +88,9 @@ pub fn put_pair<K: Eq + Drop, V: Drop>(
     key: K,
     value: V,
 ) -> Result<(), AllocError>
-    ensures entries { OnOk result (map.new.entries ≡ put K.eq map.old.entries key value) }
+    ensures insertion { OnOk result (AddsKey K.eq map.old.entries key value map.new.entries) }
     ensures capacity { KeepsRoom K.eq map.old key map.new }
     ensures err { OnErr result (Refuses K.eq map.old key map.new) }
-
-    // What follows for lookups, lengths and indices.
-    ensures updates { OnOk result (Updates K.eq map.old.entries key map.new.entries (Some value)) }
-    ensures distinct { HasDistinctKeys K.eq map.old.entries → HasDistinctKeys K.eq map.new.entries }
-    ensures keys { OnOk result (AddsKey K.eq map.old.entries key value map.new.entries) }
 {
     map.insert(key, value)?;
     Ok(())
@@ -119,20 +110,11 @@ pub fn put_pair<K: Eq + Drop, V: Drop>(
 /// set.as_slice() // ['a']
 /// ```
 pub fn add_item<T: Eq + Drop>(set: &mut VecSet<T>, item: T) -> Result<(), AllocError>
-    ensures elements { OnOk result (set.new.elements ≡ add T.eq set.old.elements item) }
+    ensures insertion { OnOk result (AddsItem T.eq set.old.elements item set.new.elements) }
     ensures distinct { IsDistinct T.eq set.new.elements }
     ensures capacity { SetKeepsRoom T.eq set.old item set.new }
-    ensures err { OnErr result (SetRefuses T.eq set.old item set.new) }
-
-    // What follows for lookups, lengths and indices.
-    ensures updates { OnOk result (UpdatesMember T.eq (T.eq item) set.old.elements
-        set.new.elements true) }
-    ensures any { OnOk result ((f : T → Bool) → AgreesOnEquals T.eq f
-        → list_any f set.new.elements ≡ (f item || list_any f set.old.elements)) }
     ensures unchanged { IsTrue (is_member T.eq set.old.elements item) → set.new ≡ set.old }
-    ensures len { OnOk result (length set.new.elements ≡ length set.old.elements
-        + (if is_member T.eq set.old.elements item then 0 else 1)) }
-    ensures indices { OnOk result (KeepsMatchIndices set.old.elements set.new.elements) }
+    ensures err { OnErr result (SetRefuses T.eq set.old item set.new) }
 {
     set.insert(item)?;
     Ok(())

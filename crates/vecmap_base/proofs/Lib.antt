@@ -11,6 +11,7 @@ pub mod MatchingLemmas
 pub mod MoveLemmas
 pub mod PairsLemmas
 pub mod IndexLemmas
+pub mod InsertionLemmas
 pub mod RemovalLemmas
 pub mod SearchLemmas
 pub mod TakenLemmas

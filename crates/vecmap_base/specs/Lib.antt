@@ -5,6 +5,7 @@ pub mod Comparisons
 pub mod Drain
 pub mod Equality
 pub mod Indices
+pub mod Insertions
 pub mod Items
 pub mod Iterators
 pub mod Kept

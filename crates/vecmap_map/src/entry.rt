@@ -7,9 +7,8 @@ ghost use Rattle.std.specs.Borrow.{Bor, MutBor, sem};
 ghost use Rattle.std.specs.Fn.{FnOnceReturnsAt};
 ghost use Rattle.std.specs.Map.Calls.{ModifiesValue};
 ghost use Rattle.std.specs.Option.{UnwrapsOrElse, option_map_or};
-ghost use Rattle.vecmap_base.specs.Indices.{AddsKey};
-ghost use Rattle.vecmap_base.specs.Lookups.{Updates};
-ghost use Rattle.vecmap_base.specs.Pairs.{index_of, lookup, put};
+ghost use Rattle.vecmap_base.specs.Insertions.{AddsKey};
+ghost use Rattle.vecmap_base.specs.Pairs.{index_of, lookup};
 ghost use Rattle.vecmap_base.specs.Removals.{RemovesBy, SwapRemovesBy};
 ghost use Rattle.vecmap_map.specs.Contents.{IsFull};
 
@@ -68,10 +67,8 @@ impl<K, V> VecMap<K, V> {
         ensures value { entry_value result ≡ lookup K.eq self.old.entries key }
 
         // What follows for lookups, lengths and indices.
-        ensures put { (v : V) → entries_with result v ≡ put K.eq self.old.entries key v }
-        ensures updates { (v : V) → Updates K.eq self.old.entries key
-            (entries_with result v) (Some v) }
-        ensures keys { (v : V) → AddsKey K.eq self.old.entries key v (entries_with result v) }
+        ensures insertion { (v : V) → AddsKey K.eq self.old.entries key v
+            (entries_with result v) }
         ensures removal { RemovesBy K.eq (K.eq key) self.old.entries (entries_without result) }
         ensures swap_removal { SwapRemovesBy K.eq (K.eq key) self.old.entries
             (entries_swap_without result) }

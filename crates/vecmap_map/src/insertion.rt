@@ -1,8 +1,10 @@
 //! Insertion of one pair.
-ghost use Rattle.std.specs.Prelude.{◌≡◌, ◌++◌, ◌∷◌, ◌<◌, ◌≤◌, ◌⊎◌, Err, IfErr, IfOk, IfSome, IsSome, IsTrue, None, Ok, OnErr, OnOk, Some, [], length, ◌+◌, if◌then◌else◌, is_some, min, option_map, slice_get, ◌-◌};
-ghost use Rattle.vecmap_base.specs.Indices.{AddsKey, HasMatchAt, InsertsAt, PutsKey};
-ghost use Rattle.vecmap_base.specs.Lookups.{Updates, UpdatesBy};
-ghost use Rattle.vecmap_base.specs.Pairs.{HasDistinctKeys, index_by, index_or_length, lookup, lookup_by, lookup_indexed, lookup_pair, put, put_at, put_key, with_value};
+ghost use Rattle.std.specs.Prelude.{◌≡◌, ◌++◌, ◌∷◌, ◌<◌, ◌≤◌, ◌⊎◌, Err, IfErr, IfOk, IfSome, IsSome, IsTrue, None, Ok, OnErr, OnOk, Some, [], length};
+ghost use Rattle.vecmap_base.specs.Indices.{HasMatchAt};
+ghost use Rattle.vecmap_base.specs.Insertions.{AddsKey, InsertsAt, PutsKey};
+ghost use Rattle.vecmap_base.specs.Lookups.{UpdatesBy};
+ghost use Rattle.vecmap_base.specs.Pairs.{index_by, index_or_length, lookup, lookup_by, lookup_indexed, with_value};
+ghost use Rattle.vecmap_base.specs.Removals.{FindsPair};
 ghost use Rattle.vecmap_map.specs.Contents.{Appends, FailsToAppend, FindsOrAppends, HasRoom, KeepsRoom, KeepsRoomAt, Refuses, RefusesAt};
 
 use crate::VecMap;
@@ -37,22 +39,13 @@ impl<K, V> VecMap<K, V> {
     pub fn insert(&mut self, key: K, value: V) -> Result<Option<V>, Refused<(K, V)>>
     where
         K: Eq + Drop,
-        ensures entries { OnOk result (self.new.entries ≡ put K.eq self.old.entries key value) }
+        ensures insertion { OnOk result (AddsKey K.eq self.old.entries key value self.new.entries) }
         ensures old { IfOk result (λ old. old ≡ lookup K.eq self.old.entries key) }
         ensures capacity { KeepsRoom K.eq self.old key self.new }
 
         // On `Err` the pair is returned, its key is new, and the map is full.
         ensures given { IfErr result (λ refused. refused.given ≡ (key, value)) }
         ensures err { OnErr result (Refuses K.eq self.old key self.new) }
-
-        // What follows for lookups, lengths and indices.
-        ensures updates { OnOk result (Updates K.eq self.old.entries key self.new.entries
-            (Some value)) }
-        ensures distinct { HasDistinctKeys K.eq self.old.entries
-            → HasDistinctKeys K.eq self.new.entries }
-        ensures len { IfOk result (λ old. length self.new.entries
-            ≡ length self.old.entries + (if is_some old then 0 else 1)) }
-        ensures keys { OnOk result (AddsKey K.eq self.old.entries key value self.new.entries) }
     {
         if let Some(index) = find(&self.pairs, &key) {
             return Ok(Some(replace(&mut self.pairs[index].1, value)));
@@ -75,24 +68,15 @@ impl<K, V> VecMap<K, V> {
     pub fn insert_full(&mut self, key: K, value: V) -> Result<(usize, Option<V>), Refused<(K, V)>>
     where
         K: Eq + Drop,
-        ensures entries { OnOk result (self.new.entries ≡ put K.eq self.old.entries key value) }
+        ensures insertion { OnOk result (AddsKey K.eq self.old.entries key value self.new.entries) }
         ensures index { IfOk result (λ done. done.0 ≡ index_or_length K.eq self.old.entries key) }
+        ensures at { IfOk result (λ done. HasMatchAt (K.eq key) self.new.entries done.0) }
         ensures old { IfOk result (λ done. done.1 ≡ lookup K.eq self.old.entries key) }
         ensures capacity { KeepsRoom K.eq self.old key self.new }
 
         // On `Err` the pair is returned, its key is new, and the map is full.
         ensures given { IfErr result (λ refused. refused.given ≡ (key, value)) }
         ensures err { OnErr result (Refuses K.eq self.old key self.new) }
-
-        // What follows for lookups, lengths and indices.
-        ensures updates { OnOk result (Updates K.eq self.old.entries key self.new.entries
-            (Some value)) }
-        ensures distinct { HasDistinctKeys K.eq self.old.entries
-            → HasDistinctKeys K.eq self.new.entries }
-        ensures len { IfOk result (λ done. length self.new.entries
-            ≡ length self.old.entries + (if is_some done.1 then 0 else 1)) }
-        ensures keys { OnOk result (AddsKey K.eq self.old.entries key value self.new.entries) }
-        ensures at { IfOk result (λ done. HasMatchAt (K.eq key) self.new.entries done.0) }
     {
         if let Some(index) = find(&self.pairs, &key) {
             return Ok((index, Some(replace(&mut self.pairs[index].1, value))));
@@ -126,24 +110,13 @@ impl<K, V> VecMap<K, V> {
     pub fn insert_key(&mut self, key: K, value: V) -> Result<Option<(K, V)>, Refused<(K, V)>>
     where
         K: Eq,
-        ensures entries { OnOk result (self.new.entries ≡ put_key K.eq self.old.entries key value) }
-        ensures old { IfOk result (λ old. old ≡ lookup_pair K.eq self.old.entries key) }
+        ensures insertion { OnOk result (PutsKey K.eq self.old.entries key value self.new.entries) }
+        ensures old { IfOk result (λ old. FindsPair (K.eq key) self.old.entries old) }
         ensures capacity { KeepsRoom K.eq self.old key self.new }
 
         // On `Err` the pair is returned, its key is new, and the map is full.
         ensures given { IfErr result (λ refused. refused.given ≡ (key, value)) }
         ensures err { OnErr result (Refuses K.eq self.old key self.new) }
-
-        // What follows for lookups, lengths and indices.
-        ensures updates { OnOk result (Updates K.eq self.old.entries key self.new.entries
-            (Some value)) }
-        ensures distinct { HasDistinctKeys K.eq self.old.entries
-            → HasDistinctKeys K.eq self.new.entries }
-        ensures len { IfOk result (λ old. length self.new.entries
-            ≡ length self.old.entries + (if is_some old then 0 else 1)) }
-        ensures value { IfOk result (λ old. option_map (λ p. p.1) old
-            ≡ lookup K.eq self.old.entries key) }
-        ensures keys { OnOk result (PutsKey K.eq self.old.entries key value self.new.entries) }
     {
         if let Some(index) = find(&self.pairs, &key) {
             return Ok(Some(replace(&mut self.pairs[index], (key, value))));
@@ -189,24 +162,14 @@ impl<K, V> VecMap<K, V> {
     where
         K: Eq + Drop,
         requires within { index ≤ length self.old.entries }
-        ensures entries { OnOk result (self.new.entries
-            ≡ put_at K.eq self.old.entries index key value) }
+        ensures insertion { OnOk result (InsertsAt K.eq index self.old.entries key value
+            self.new.entries) }
         ensures old { IfOk result (λ old. old ≡ lookup_indexed K.eq self.old.entries key) }
         ensures capacity { KeepsRoom K.eq self.old key self.new }
 
         // On `Err` the pair is returned, its key is new, and the map is full.
         ensures given { IfErr result (λ refused. refused.given ≡ (key, value)) }
         ensures err { OnErr result (Refuses K.eq self.old key self.new) }
-
-        // What follows for lookups, lengths and indices.
-        ensures updates { OnOk result (HasDistinctKeys K.eq self.old.entries
-            → Updates K.eq self.old.entries key self.new.entries (Some value)) }
-        ensures len { IfOk result (λ old. length self.new.entries
-            ≡ length self.old.entries + (if is_some old then 0 else 1)) }
-        ensures keys { OnOk result (InsertsAt K.eq index self.old.entries key value
-            self.new.entries) }
-        ensures at { OnOk result (slice_get self.new.entries (min index (length self.new.entries - 1))
-            ≡ Some (key, value)) }
     {
         if let Some(from) = find(&self.pairs, &key) {
             let is_last = index == self.pairs.len();
@@ -252,19 +215,12 @@ impl<K, V> VecMap<K, V> {
         K: Eq,
         requires absent { lookup K.eq self.old.entries key ≡ None }
         ensures entries { OnOk result (self.new.entries ≡ self.old.entries ++ (key, value) ∷ []) }
+        ensures insertion { OnOk result (AddsKey K.eq self.old.entries key value self.new.entries) }
         ensures capacity { KeepsRoomAt None self.old self.new }
 
         // On `Err` the pair is returned, and the map is full.
         ensures given { IfErr result (λ refused. refused.given ≡ (key, value)) }
         ensures err { OnErr result (RefusesAt None self.old self.new) }
-
-        // What follows for lookups, lengths and indices.
-        ensures updates { OnOk result (Updates K.eq self.old.entries key self.new.entries
-            (Some value)) }
-        ensures distinct { HasDistinctKeys K.eq self.old.entries
-            → HasDistinctKeys K.eq self.new.entries }
-        ensures len { OnOk result (length self.new.entries ≡ length self.old.entries + 1) }
-        ensures keys { OnOk result (AddsKey K.eq self.old.entries key value self.new.entries) }
     {
         let pair = (key, value);
         if self.reserve_one().is_err() {

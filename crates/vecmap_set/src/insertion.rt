@@ -1,12 +1,12 @@
 //! Insertion of one element.
-ghost use Rattle.std.specs.Prelude.{◌≡◌, ◌+◌, ◌++◌, ◌∷◌, ◌<◌, ◌≤◌, ◌||◌, ◌⊎◌, Bool, Err, IfErr, IfOk, IfSome, IsTrue, None, Ok, OnErr, OnOk, Some, [], false, if◌then◌else◌, is_some, length, not, position, slice_get, true, unwrap_or};
+ghost use Rattle.std.specs.Prelude.{◌≡◌, ◌+◌, ◌++◌, ◌∷◌, ◌<◌, ◌≤◌, ◌||◌, ◌⊎◌, Bool, Err, IfErr, IfOk, IfSome, IsTrue, None, Ok, OnErr, OnOk, Some, [], false, if◌then◌else◌, length, not, position, slice_get, true, unwrap_or};
 ghost use Rattle.std.specs.List.{IsDistinct, list_any};
 ghost use Rattle.std.specs.Set.{is_member};
-ghost use Rattle.vecmap_base.specs.Items.{add, item_index, put_item, stored_item};
+ghost use Rattle.vecmap_base.specs.Items.{item_index, stored_item};
 ghost use Rattle.vecmap_base.specs.Lookups.{UpdatesMember};
 ghost use Rattle.vecmap_set.specs.Contents.{Appends, FailsToAppend, HasRoom, IsFull, KeepsRoom, KeepsRoomAt, Refuses};
-ghost use Rattle.vecmap_set.specs.Indices.{KeepsMatchIndices, KeepsItemIndices};
-ghost use Rattle.vecmap_set.specs.Tests.{AgreesOnEquals};
+ghost use Rattle.vecmap_set.specs.Indices.{KeepsMatchIndices};
+ghost use Rattle.vecmap_set.specs.Insertions.{AddsItem, PutsItem};
 
 use crate::VecSet;
 use std::alloc::AllocError;
@@ -40,30 +40,17 @@ impl<T: Eq> VecSet<T> {
     pub fn insert(&mut self, item: T) -> Result<bool, Refused<T>>
     where
         T: Drop,
-        ensures elements { OnOk result (self.new.elements ≡ add T.eq self.old.elements item) }
+        ensures insertion { OnOk result (AddsItem T.eq self.old.elements item self.new.elements) }
         ensures added { IfOk result
             (λ added. added ≡ not (is_member T.eq self.old.elements item)) }
         ensures distinct { IsDistinct T.eq self.new.elements }
         ensures capacity { KeepsRoom T.eq self.old item self.new }
+        ensures unchanged { IsTrue (is_member T.eq self.old.elements item)
+            → self.new ≡ self.old }
 
         // On `Err` the element is returned, it is new, and the set is full.
         ensures given { IfErr result (λ refused. refused.given ≡ item) }
         ensures err { OnErr result (Refuses T.eq self.old item self.new) }
-
-        // What follows for lookups, lengths and indices.
-        ensures updates { OnOk result (UpdatesMember T.eq (T.eq item) self.old.elements
-            self.new.elements true) }
-        ensures any { OnOk result ((f : T → Bool) → AgreesOnEquals T.eq f
-            → list_any f self.new.elements ≡ (f item || list_any f self.old.elements)) }
-        ensures unchanged { IsTrue (is_member T.eq self.old.elements item)
-            → self.new ≡ self.old }
-        ensures appended { IfOk result (λ added. IsTrue added
-            → self.new.elements ≡ self.old.elements ++ item ∷ []) }
-        ensures at { IfOk result (λ added. IsTrue added
-            → slice_get self.new.elements (length self.old.elements) ≡ Some item) }
-        ensures len { IfOk result (λ added. length self.new.elements
-            ≡ length self.old.elements + (if added then 1 else 0)) }
-        ensures indices { OnOk result (KeepsMatchIndices self.old.elements self.new.elements) }
     {
         if contains_item_inline(&self.items, &item) {
             return Ok(false);
@@ -86,13 +73,15 @@ impl<T: Eq> VecSet<T> {
     pub fn insert_full(&mut self, item: T) -> Result<(usize, bool), Refused<T>>
     where
         T: Drop,
-        ensures elements { OnOk result (self.new.elements ≡ add T.eq self.old.elements item) }
+        ensures insertion { OnOk result (AddsItem T.eq self.old.elements item self.new.elements) }
         ensures index { IfOk result (λ done. done.0
             ≡ unwrap_or (item_index T.eq self.old.elements item) (length self.old.elements)) }
         ensures added { IfOk result
             (λ done. done.1 ≡ not (is_member T.eq self.old.elements item)) }
         ensures distinct { IsDistinct T.eq self.new.elements }
         ensures capacity { KeepsRoom T.eq self.old item self.new }
+        ensures unchanged { IsTrue (is_member T.eq self.old.elements item)
+            → self.new ≡ self.old }
 
         // On `Err` the element is returned, it is new, and the set is full.
         ensures given { IfErr result (λ refused. refused.given ≡ item) }
@@ -104,17 +93,6 @@ impl<T: Eq> VecSet<T> {
             (λ done. item_index T.eq self.new.elements item ≡ Some done.0) }
         ensures at { IfOk result (λ done. (x : T)
             × (slice_get self.new.elements done.0 ≡ Some x) × IsTrue (T.eq item x)) }
-        ensures updates { OnOk result (UpdatesMember T.eq (T.eq item) self.old.elements
-            self.new.elements true) }
-        ensures any { OnOk result ((f : T → Bool) → AgreesOnEquals T.eq f
-            → list_any f self.new.elements ≡ (f item || list_any f self.old.elements)) }
-        ensures unchanged { IsTrue (is_member T.eq self.old.elements item)
-            → self.new ≡ self.old }
-        ensures appended { IfOk result (λ done. IsTrue done.1
-            → self.new.elements ≡ self.old.elements ++ item ∷ []) }
-        ensures len { IfOk result (λ done. length self.new.elements
-            ≡ length self.old.elements + (if done.1 then 1 else 0)) }
-        ensures indices { OnOk result (KeepsMatchIndices self.old.elements self.new.elements) }
     {
         if let Some(index) = find_item(&self.items, &item) {
             return Ok((index, false));
@@ -148,8 +126,7 @@ impl<T: Eq> VecSet<T> {
     /// ```
     #[tactic(auto, using(vecmap_base::proofs::IndexLemmas::list_any_position, std::proofs::lemmas::Option::gets))]
     pub fn replace(&mut self, item: T) -> Result<Option<T>, Refused<T>>
-        ensures elements { OnOk result
-            (self.new.elements ≡ put_item T.eq self.old.elements item) }
+        ensures insertion { OnOk result (PutsItem T.eq self.old.elements item self.new.elements) }
         ensures old { IfOk result (λ old. old ≡ stored_item T.eq self.old.elements item) }
         ensures distinct { IsDistinct T.eq self.new.elements }
         ensures capacity { KeepsRoom T.eq self.old item self.new }
@@ -157,18 +134,6 @@ impl<T: Eq> VecSet<T> {
         // On `Err` the element is returned, it is new, and the set is full.
         ensures given { IfErr result (λ refused. refused.given ≡ item) }
         ensures err { OnErr result (Refuses T.eq self.old item self.new) }
-
-        // What follows for lookups, lengths and indices.
-        ensures updates { OnOk result (UpdatesMember T.eq (T.eq item) self.old.elements
-            self.new.elements true) }
-        ensures any { OnOk result ((f : T → Bool) → AgreesOnEquals T.eq f
-            → list_any f self.new.elements ≡ (f item || list_any f self.old.elements)) }
-        ensures appended { IfOk result (λ old. old ≡ None
-            → self.new.elements ≡ self.old.elements ++ item ∷ []) }
-        ensures len { IfOk result (λ old. length self.new.elements
-            ≡ length self.old.elements + (if is_some old then 0 else 1)) }
-        ensures indices { OnOk result (KeepsItemIndices T.eq self.old.elements
-            self.new.elements) }
     {
         if let Some(index) = find_item(&self.items, &item) {
             return Ok(Some(mem::replace(&mut self.items[index], item)));
@@ -204,22 +169,17 @@ impl<T: Eq> VecSet<T> {
     pub fn insert_unique(&mut self, item: T) -> Result<(), Refused<T>>
         requires absent { is_member T.eq self.old.elements item ≡ false }
         ensures elements { OnOk result (self.new.elements ≡ self.old.elements ++ item ∷ []) }
+        ensures insertion { OnOk result (AddsItem T.eq self.old.elements item self.new.elements) }
+        ensures any { OnOk result ((f : T → Bool) → list_any f self.new.elements
+            ≡ (f item || list_any f self.old.elements)) }
+        ensures at { OnOk result (slice_get self.new.elements (length self.old.elements)
+            ≡ Some item) }
         ensures distinct { IsDistinct T.eq self.new.elements }
         ensures capacity { KeepsRoom T.eq self.old item self.new }
 
         // On `Err` the element is returned, and the set is full.
         ensures given { IfErr result (λ refused. refused.given ≡ item) }
         ensures err { OnErr result (Refuses T.eq self.old item self.new) }
-
-        // What follows for lookups, lengths and indices.
-        ensures updates { OnOk result (UpdatesMember T.eq (T.eq item) self.old.elements
-            self.new.elements true) }
-        ensures any { OnOk result ((f : T → Bool) → list_any f self.new.elements
-            ≡ (f item || list_any f self.old.elements)) }
-        ensures at { OnOk result (slice_get self.new.elements (length self.old.elements)
-            ≡ Some item) }
-        ensures len { OnOk result (length self.new.elements ≡ length self.old.elements + 1) }
-        ensures indices { OnOk result (KeepsMatchIndices self.old.elements self.new.elements) }
     {
         if self.reserve_one().is_err() {
             return Err(Refused { given: item });

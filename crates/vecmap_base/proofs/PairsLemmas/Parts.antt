@@ -12,7 +12,8 @@ use Rattle.vecmap_base.specs.{Lookups.Joins, Lookups.KeepsFront}
 use Rattle.vecmap_base.specs.Pairs.{HasDistinctKeys, index_by, lookup, lookup_by, put, puts}
 use Rattle.vecmap_base.proofs.DistinctLemmas.Removals.{distinct_front, distinct_take}
 use Rattle.vecmap_base.proofs.IndexLemmas.{is_some_position}
-use Rattle.vecmap_base.proofs.PairsLemmas.{AtIndices.index_in_front, AtIndices.indices_put, ByIndex.index_by_is, ByIndex.index_by_none, Distinct.distinct_keys_rearranged, Distinct.distinct_put, Lookups.updates_put, Puts.length_puts_at_most, Puts.put_absent, Puts.puts_not_empty}
+use Rattle.vecmap_base.proofs.InsertionLemmas.{indices_put}
+use Rattle.vecmap_base.proofs.PairsLemmas.{AtIndices.index_in_front, ByIndex.index_by_is, ByIndex.index_by_none, Distinct.distinct_keys_rearranged, Distinct.distinct_put, Lookups.updates_put, Puts.length_puts_at_most, Puts.put_absent, Puts.puts_not_empty}
 
 module _ {K V : Type 0} (test : K → Bool) where
   -- A lookup in a list of two parts finds what the first part has, or else what the second has.

@@ -21,13 +21,13 @@ pub returns-in-Some-clause-others : goal.returns-in-Some-clause-others
 returns-in-Some-clause-others c = other_values_stay c.args.sections.now c.args.name c.append.new.self (c.in-Some.ensures.found.0 refl)
 
 pub returns-in-None-clause-sections : goal.returns-in-None-clause-sections
-returns-in-None-clause-sections c = section_added c.args.sections.now.entries c.insert.new.self.entries c.args.name c.args.texts c.in-None.ensures.value (at_ok c.insert.result c.unwrap-in-None.result c.unwrap-in-None.ensures c.insert.ensures.entries)
+returns-in-None-clause-sections c = section_added c.args.sections.now.entries c.insert.new.self.entries c.args.name c.args.texts c.in-None.ensures.value (at_ok c.insert.result c.unwrap-in-None.result c.unwrap-in-None.ensures c.insert.ensures.insertion).entries
 
 pub returns-in-None-clause-others : goal.returns-in-None-clause-others
-returns-in-None-clause-others c = others_after c.args.sections.now.entries c.insert.new.self.entries c.args.name c.args.texts (at_ok c.insert.result c.unwrap-in-None.result c.unwrap-in-None.ensures c.insert.ensures.entries)
+returns-in-None-clause-others c = others_after c.args.sections.now.entries c.insert.new.self.entries c.args.name c.args.texts (at_ok c.insert.result c.unwrap-in-None.result c.unwrap-in-None.ensures c.insert.ensures.insertion).entries
 
 pub returns-in-None-clause-len : goal.returns-in-None-clause-len
 returns-in-None-clause-len c =
-    let long = ap length (at_ok c.insert.result c.unwrap-in-None.result c.unwrap-in-None.ensures c.insert.ensures.entries) in
+    let long = ap length (at_ok c.insert.result c.unwrap-in-None.result c.unwrap-in-None.ensures c.insert.ensures.insertion).entries in
     let put = length_put str_eq_ignore_ascii_case c.args.sections.now.entries c.args.name c.args.texts in
     rw (long, put) (grind arith)

@@ -1,14 +1,10 @@
 use Rattle.vecmap_map.proofs.EntryLemmas.Puts.{entries_swap_without_by, entries_with_put, entries_without_by, entry_value_is}
-use Rattle.vecmap_base.proofs.PairsLemmas.AtIndices.{adds_key}
-use Rattle.vecmap_base.proofs.PairsLemmas.Lookups.{updates_of_put}
+use Rattle.vecmap_base.proofs.InsertionLemmas.{adds_key}
 use Rattle.vecmap_base.proofs.RemovalLemmas.{removes_by, swap_removes_by}
 use Rattle.vecmap_map.proofs.VecMap.entry.Goals as goal
 
-pub returns-clause-put : goal.returns-clause-put
-returns-clause-put g c = λ v. entries_with_put g.K.PartialEq.eq _ _ _ v c.over.ensures.unchanged c.over.ensures.key c.over.ensures.index
-
-pub returns-clause-updates : goal.returns-clause-updates
-returns-clause-updates g c = λ v. updates_of_put g.K.PartialEq.eq g.met.K.Eq.laws _ _ _ _ (returns-clause-put g c v)
+pub returns-clause-insertion : goal.returns-clause-insertion
+returns-clause-insertion g c = λ v. adds_key g.K.PartialEq.eq g.met.K.Eq.laws _ _ _ _ (entries_with_put g.K.PartialEq.eq _ _ _ v c.over.ensures.unchanged c.over.ensures.key c.over.ensures.index)
 
 pub returns-clause-value : goal.returns-clause-value
 returns-clause-value g c = entry_value_is g.K.PartialEq.eq _ _ _ c.over.ensures.unchanged c.over.ensures.index
@@ -24,6 +20,3 @@ returns-clause-swap_removal g c =
     let eq = g.K.PartialEq.eq in
     let o = g.met.K.Eq.laws in
     swap_removes_by (eq c.args.key) _ eq o (o.congr c.args.key) _ (entries_swap_without_by eq _ _ _ c.over.ensures.unchanged c.over.ensures.index)
-
-pub returns-clause-keys : goal.returns-clause-keys
-returns-clause-keys g c = λ v. adds_key g.K.PartialEq.eq g.met.K.Eq.laws _ _ _ _ (returns-clause-put g c v)

@@ -9,7 +9,7 @@ pub loop-key-preserved-in_ok-insert : goal.loop-key-preserved-in_ok-insert
 loop-key-preserved-in_ok-insert g c = record {
   can = grind (arith, common_steps);
   finite = grind (arith, common_steps);
-  entries = grind (arith, common_steps, c.in_ok-insert.ensures.entries);
+  entries = grind (arith, common_steps, c.in_ok-insert.ensures.insertion.entries);
   capacity = grind (arith, c.in_ok-insert.ensures.capacity);
   room = grind (arith, common_steps, length_put_at_most);
   stays = grind (arith, common_steps, length_put_at_most);
@@ -19,7 +19,7 @@ pub loop-key-preserved : goal.loop-key-preserved
 loop-key-preserved g c = record {
   can = grind (arith, common_steps);
   finite = grind (arith, common_steps);
-  entries = grind (arith, common_steps, c.in_ok-insert.ensures.entries);
+  entries = grind (arith, common_steps, c.in_ok-insert.ensures.insertion.entries);
   capacity = grind (arith, c.in_ok-insert.ensures.capacity);
   room = grind (arith, common_steps, length_put_at_most);
   stays = grind (arith, common_steps, length_put_at_most);

@@ -1,5 +1,5 @@
 use Rattle.std.specs.List.{list_any}
-use Rattle.std.proofs.Common.{◌≡◌, ◌∙◌, None, Some, ap, arith, false, is_some, position, sym, true}
+use Rattle.std.proofs.Common.{◌≡◌, ◌∙◌, [], ◌∷◌, None, Some, ap, arith, false, is_some, length, length-append, position, sym, true}
 use Rattle.vecmap_base.proofs.IndexLemmas.{list_any_position, position_appended}
 use Rattle.vecmap_base.proofs.ItemsLemmas.Members.{absent_by, members_appended_by, members_matched}
 use Rattle.vecmap_set.proofs.IndexLemmas.{found_item_at}
@@ -62,4 +62,4 @@ returns-in-Ok-clause-len g c =
     let s = c.args.self.now.elements in
     let none : position test s ≡ None = ap (λ v. position test v.elements) (sym c.self.view_is) ∙ ap (position test) (sym c.deref.ensures.value) ∙ sym c.find_item_equivalent.ensures.index ∙ c.in_default.is in
     let absent : list_any test s ≡ false = list_any_position test s ∙ ap is_some none in
-    rw absent c.in-Ok.ensures.len
+    rw absent (ap length c.in-Ok.ensures.elements ∙ length-append s (c.in_ok-item.item ∷ []))

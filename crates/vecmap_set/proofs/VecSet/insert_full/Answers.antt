@@ -2,9 +2,8 @@
 use Rattle.std.proofs.Common.{◌≡◌, ◌∙◌, None, Some, ap, rules, sym}
 use Rattle.vecmap_base.specs.Items.{item_index}
 use Rattle.vecmap_base.proofs.IndexLemmas.{list_any_position, position_appended}
-use Rattle.vecmap_base.proofs.ItemsLemmas.Members.{members_of_add}
 use Rattle.vecmap_set.proofs.IndexLemmas.{found_item_at}
-use Rattle.vecmap_set.proofs.QueryLemmas.{any_of_add}
+use Rattle.vecmap_set.proofs.InsertionLemmas.{adds_item}
 use Rattle.vecmap_set.proofs.VecSet.insert_full.Goals as goal
 
 pub returns-in-Some-clause-at : goal.returns-in-Some-clause-at
@@ -14,11 +13,8 @@ returns-in-Some-clause-at g c =
     let place : item_index eq s c.args.item ≡ Some c.in-Some.index = ap (λ v. item_index eq v.elements c.args.item) (sym c.self.view_is) ∙ ap (λ l. item_index eq l c.args.item) (sym c.deref.ensures.value) ∙ sym c.find_item.ensures.index ∙ c.in-Some.is in
     found_item_at (eq c.args.item) s (Some c.in-Some.index) (sym place)
 
-pub returns-in-Some-clause-updates : goal.returns-in-Some-clause-updates
-returns-in-Some-clause-updates g c = members_of_add g.T.PartialEq.eq g.met.T.Eq.laws c.args.self.now.elements _ c.args.item (search (rules, list_any_position))
-
-pub returns-in-Some-clause-any : goal.returns-in-Some-clause-any
-returns-in-Some-clause-any g c = any_of_add g.T.PartialEq.eq c.args.self.now.elements _ c.args.item (search (rules, list_any_position))
+pub returns-in-Some-clause-insertion : goal.returns-in-Some-clause-insertion
+returns-in-Some-clause-insertion g c = adds_item g.T.PartialEq.eq g.met.T.Eq.laws c.args.self.now.elements _ c.args.item (search (rules, list_any_position))
 
 pub returns-clause-found : goal.returns-clause-found
 returns-clause-found g c =

@@ -5,9 +5,7 @@ use Rattle.std.proofs.lemmas.{List.Quantifiers.position-Some, Option.gets}
 use Rattle.vecmap_base.specs.Items.{item_index}
 use Rattle.vecmap_base.proofs.DistinctLemmas.Additions.{distinct_replace}
 use Rattle.vecmap_base.proofs.IndexLemmas.{list_any_position}
-use Rattle.vecmap_base.proofs.ItemsLemmas.Changes.{members_of_put}
-use Rattle.vecmap_set.proofs.QueryLemmas.{any_of_put}
-use Rattle.vecmap_set.proofs.IndexLemmas.{indices_of_put}
+use Rattle.vecmap_set.proofs.InsertionLemmas.{puts_item}
 use Rattle.vecmap_set.proofs.VecSet.replace.Goals as goal
 
 pub invariant_of-self : goal.invariant_of-self
@@ -19,20 +17,8 @@ invariant_of-self g c =
 pub returns-in-Some-clause-distinct : goal.returns-in-Some-clause-distinct
 returns-in-Some-clause-distinct g c = invariant_of-self g c
 
-pub returns-in-Some-clause-updates : goal.returns-in-Some-clause-updates
-returns-in-Some-clause-updates g c = members_of_put g.T.PartialEq.eq g.met.T.Eq.laws c.args.self.now.elements _ c.args.item (search (rules, list_any_position, gets))
+pub returns-in-Some-clause-insertion : goal.returns-in-Some-clause-insertion
+returns-in-Some-clause-insertion g c = puts_item g.T.PartialEq.eq g.met.T.Eq.laws c.args.self.now.elements _ c.args.item (search (rules, list_any_position, gets))
 
-pub returns-clause-updates : goal.returns-clause-updates
-returns-clause-updates g c = members_of_put g.T.PartialEq.eq g.met.T.Eq.laws c.args.self.now.elements _ c.args.item (search (rules, list_any_position, gets))
-
-pub returns-in-Some-clause-any : goal.returns-in-Some-clause-any
-returns-in-Some-clause-any g c = any_of_put g.T.PartialEq.eq c.args.self.now.elements _ c.args.item (search (rules, list_any_position, gets))
-
-pub returns-in-Some-clause-indices : goal.returns-in-Some-clause-indices
-returns-in-Some-clause-indices g c = indices_of_put g.T.PartialEq.eq g.met.T.Eq.laws c.args.self.now.elements _ c.args.item (search (rules, list_any_position, gets))
-
-pub returns-clause-any : goal.returns-clause-any
-returns-clause-any g c = any_of_put g.T.PartialEq.eq c.args.self.now.elements _ c.args.item (search (rules, list_any_position, gets))
-
-pub returns-clause-indices : goal.returns-clause-indices
-returns-clause-indices g c = indices_of_put g.T.PartialEq.eq g.met.T.Eq.laws c.args.self.now.elements _ c.args.item (search (rules, list_any_position, gets))
+pub returns-clause-insertion : goal.returns-clause-insertion
+returns-clause-insertion g c = puts_item g.T.PartialEq.eq g.met.T.Eq.laws c.args.self.now.elements _ c.args.item (search (rules, list_any_position, gets))

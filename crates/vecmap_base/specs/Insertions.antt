@@ -1,0 +1,53 @@
+-- What the insertion of one pair leaves of a list of pairs, one record for each kind of insertion. `eq` is the `==` of keys,
+-- and a test is what a query does with a key.
+use Rattle.std.specs.Prelude.{◌≡◌, ◌++◌, ◌∷◌, ◌+◌, ◌-◌, ◌<◌, ℕ, Bool, List, [], IsSome, None, Some, if◌then◌else◌, insert, is_some, length, min, slice_get, true, unwrap_or}
+use Rattle.std.specs.Map.{keys_of}
+use Rattle.vecmap_base.specs.Lookups.{UpdatesBy}
+use Rattle.vecmap_base.specs.Pairs.{HasDistinctKeys, index_by, index_of, index_or_length, lookup, put, put_at, put_key}
+
+-- Example: from `[(1,a)]` to `[(1,a), (2,b)]` for the pair `(2,b)`.
+-- An insertion of the pair `(k, v)` into the list `l` leaves each key at its index, and appends a new key.
+pub record AddsKey {K V : Type 0} (eq : K → K → Bool) (l : List (K × V)) (k : K) (v : V) (m : List (K × V)) : Type 0 where
+  pub entries : m ≡ put eq l k v
+  -- What lookups find: the value for the key, and for each other key what they found. Distinct keys stay distinct.
+  pub updates : UpdatesBy eq (eq k) l m (Some v)
+  -- Which keys the list has, and at which indices.
+  pub index : index_of eq m k ≡ Some (index_or_length eq l k)
+  pub indices : (test : K → Bool) (i : ℕ) → index_by test l ≡ Some i → index_by test m ≡ Some i
+  pub keys : keys_of m ≡ (if is_some (lookup eq l k) then keys_of l else keys_of l ++ k ∷ [])
+  pub len : length m ≡ (if is_some (lookup eq l k) then length l else length l + 1)
+  pub kept : IsSome (lookup eq l k) → keys_of m ≡ keys_of l
+  pub appended : lookup eq l k ≡ None → m ≡ l ++ (k, v) ∷ []
+  pub last : lookup eq l k ≡ None → index_of eq m k ≡ Some (length l)
+  pub pair : lookup eq l k ≡ None → slice_get m (length l) ≡ Some (k, v)
+  pub stay : IsSome (lookup eq l k) → (test : K → Bool) → index_by test m ≡ index_by test l
+  pub same : (w : V) → IsSome (lookup eq l k) → v ≡ unwrap_or (lookup eq l k) w → m ≡ l
+
+-- Example: from `[(1x,a)]` to `[(1y,b)]` for the pair `(1y,b)`.
+-- An insertion that replaces an equal key leaves each key at its index, has `(k, v)` at that of `k`, and appends a new pair.
+pub record PutsKey {K V : Type 0} (eq : K → K → Bool) (l : List (K × V)) (k : K) (v : V) (m : List (K × V)) : Type 0 where
+  pub entries : m ≡ put_key eq l k v
+  -- What lookups find: the value for the key, and for each other key what they found. Distinct keys stay distinct.
+  pub updates : UpdatesBy eq (eq k) l m (Some v)
+  -- Which keys the list has, and at which indices.
+  pub index : index_of eq m k ≡ Some (index_or_length eq l k)
+  pub indices : (q : K) (i : ℕ) → index_of eq l q ≡ Some i → index_of eq m q ≡ Some i
+  pub pair : slice_get m (index_or_length eq l k) ≡ Some (k, v)
+  pub len : length m ≡ (if is_some (lookup eq l k) then length l else length l + 1)
+  pub appended : lookup eq l k ≡ None → m ≡ l ++ (k, v) ∷ []
+  pub last : lookup eq l k ≡ None → slice_get m (length l) ≡ Some (k, v)
+  pub keys : ((q : K) → eq k q ≡ true → q ≡ k) → keys_of m ≡ (if is_some (lookup eq l k) then keys_of l else keys_of l ++ k ∷ [])
+
+-- Example: from `[(1,a)]` to `[(2,b), (1,a)]` for the pair `(2,b)` and the index 0.
+-- An insertion of the pair `(k, v)` at the index `i` of the list `l` has a new key there, and the pairs before it stay.
+pub record InsertsAt {K V : Type 0} (eq : K → K → Bool) (i : ℕ) (l : List (K × V)) (k : K) (v : V) (m : List (K × V)) : Type 0 where
+  pub entries : m ≡ put_at eq l i k v
+  -- What lookups find: the value for the key, and for each other key what they found. Distinct keys stay distinct.
+  pub updates : HasDistinctKeys eq l → UpdatesBy eq (eq k) l m (Some v)
+  -- Where the pair is, and which keys the list has.
+  pub at : slice_get m (min i (length m - 1)) ≡ Some (k, v)
+  pub index : lookup eq l k ≡ None → index_of eq m k ≡ Some i
+  pub pair : lookup eq l k ≡ None → slice_get m i ≡ Some (k, v)
+  pub front : (j : ℕ) → lookup eq l k ≡ None → j < i → slice_get m j ≡ slice_get l j
+  pub keys : lookup eq l k ≡ None → keys_of m ≡ insert (keys_of l) i k
+  pub len : length m ≡ (if is_some (lookup eq l k) then length l else length l + 1)

@@ -1,0 +1,72 @@
+-- The records of insertions, from the list that is left.
+use Rattle.std.specs.{Cmp.IsEquivalence, Option.option_and_then, Option.option_map_or, Set.is_member}
+use Rattle.std.proofs.Common.{◌≡◌, ◌∙◌, ◌++◌, ◌+◌, ℕ, Bool, true, false, List, [], ◌∷◌, None, Option, Some, IsTrue, ap, arith, if◌then◌else◌, inl, inr, is_some, length, length-append, not, position, refl, slice_get, slice_set, sym, true≢false}
+use Rattle.std.proofs.lemmas.Bool.{cases_Bool}
+use Rattle.std.proofs.lemmas.List.{length-set}
+use Rattle.vecmap_base.specs.Items.{add, put_item, stored_item}
+use Rattle.vecmap_base.proofs.IndexLemmas.{list_any_position, list_any_stored, stored_last}
+use Rattle.vecmap_base.proofs.ItemsLemmas.Additions.{add_absent, add_present}
+use Rattle.vecmap_base.proofs.ItemsLemmas.Changes.{members_of_put}
+use Rattle.vecmap_base.proofs.ItemsLemmas.Members.{members_of_add}
+use Rattle.vecmap_set.specs.Indices.{KeepsMatchIndices}
+use Rattle.vecmap_set.specs.Insertions.{AddsItem, PutsItem}
+use Rattle.vecmap_set.proofs.IndexLemmas.{indices_appended, indices_of_put, indices_stay}
+use Rattle.vecmap_set.proofs.QueryLemmas.{any_of_add, any_of_put}
+
+module _ {T : Type 0} (eq : T → T → Bool) (o : IsEquivalence eq) (s r : List T) (x : T) where
+  is_new : (b : Bool) → IsTrue (not b) → b ≡ false
+  is_new true h = absurd (true≢false (sym h))
+  is_new false h = refl
+
+  pub adds_item : r ≡ add eq s x → AddsItem eq s x r
+  adds_item e = record {
+    elements = e;
+    updates = members_of_add eq o s r x e;
+    any = any_of_add eq s r x e;
+    appended = appended;
+    at = λ new. stored_last s r x (appended new);
+    len = len;
+    indices = indices;
+  }
+    where
+      appended : IsTrue (not (is_member eq s x)) → r ≡ s ++ x ∷ []
+      appended new = e ∙ add_absent eq s x (is_new (is_member eq s x) new)
+
+      len : length r ≡ length s + (if not (is_member eq s x) then 1 else 0)
+      len =
+          elim (cases_Bool (is_member eq s x)) [
+            | inl h ↦ let same = ap length (e ∙ add_present eq s x h) in rw h (omega (arith, same))
+            | inr n ↦ rw n (ap length (e ∙ add_absent eq s x n) ∙ length-append s (x ∷ []))
+          ]
+
+      indices : KeepsMatchIndices s r
+      indices =
+          elim (cases_Bool (is_member eq s x)) [
+            | inl h ↦ indices_stay s r (e ∙ add_present eq s x h)
+            | inr n ↦ indices_appended s r (x ∷ []) (e ∙ add_absent eq s x n)
+          ]
+
+  -- The same of a list that a new element was appended to.
+  pub adds_new_item : r ≡ s ++ x ∷ [] → is_member eq s x ≡ false → AddsItem eq s x r
+  adds_new_item e n = adds_item (e ∙ sym (add_absent eq s x n))
+
+  pub puts_item : r ≡ put_item eq s x → PutsItem eq s x r
+  puts_item e = record {
+    elements = e;
+    updates = members_of_put eq o s r x e;
+    any = any_of_put eq s r x e;
+    appended = λ new. e ∙ by (position (eq x) s) (sym (list_any_position (eq x) s) ∙ list_any_stored (eq x) s ∙ ap is_some new);
+    len = ap length e ∙ len (position (eq x) s) ∙ ap (λ b. length s + (if b then 0 else 1)) (sym (list_any_position (eq x) s) ∙ list_any_stored (eq x) s);
+    indices = indices_of_put eq o s r x e;
+  }
+    where
+      put_at : (found : Option ℕ) → List T
+      put_at found = option_map_or (λ i. slice_set s i x) found (s ++ x ∷ [])
+
+      by : (found : Option ℕ) → is_some found ≡ false → put_at found ≡ s ++ x ∷ []
+      by None f = refl
+      by (Some i) f = absurd (true≢false f)
+
+      len : (found : Option ℕ) → length (put_at found) ≡ length s + (if is_some found then 0 else 1)
+      len None = length-append s (x ∷ [])
+      len (Some i) = let same = length-set s i x in omega (arith, same)

@@ -1,0 +1,35 @@
+-- What the insertion of one element leaves of a set, one record for each kind of insertion. `eq` is the `==` of the elements.
+-- In the examples, `1x` and `1y` are elements that `eq` calls equal, and are not the same.
+use Rattle.std.specs.Prelude.{◌≡◌, ◌++◌, ◌∷◌, ◌+◌, ◌||◌, Bool, IsTrue, List, [], None, Some, if◌then◌else◌, is_some, length, not, slice_get, true}
+use Rattle.std.specs.List.{list_any}
+use Rattle.std.specs.Set.{is_member}
+use Rattle.vecmap_base.specs.Items.{add, put_item, stored_item}
+use Rattle.vecmap_base.specs.Lookups.{UpdatesMember}
+use Rattle.vecmap_set.specs.Indices.{KeepsItemIndices, KeepsMatchIndices}
+use Rattle.vecmap_set.specs.Tests.{AgreesOnEquals}
+
+module _ {T : Type 0} (eq : T → T → Bool) where
+  -- Example: from `[1x]` to `[1x, 2x]` for `2x`.
+  -- The list `r` is the list `s` after an insertion of `x`: an equal element stays, and a new one is appended.
+  pub record AddsItem (s : List T) (x : T) (r : List T) : Type 0 where
+    pub elements : r ≡ add eq s x
+    -- What queries find, and for which tests an element passes, if they do not tell equal elements apart.
+    pub updates : UpdatesMember eq (eq x) s r true
+    pub any : (f : T → Bool) → AgreesOnEquals eq f → list_any f r ≡ (f x || list_any f s)
+    -- Where a new element is.
+    pub appended : IsTrue (not (is_member eq s x)) → r ≡ s ++ x ∷ []
+    pub at : IsTrue (not (is_member eq s x)) → slice_get r (length s) ≡ Some x
+    pub len : length r ≡ length s + (if not (is_member eq s x) then 1 else 0)
+    pub indices : KeepsMatchIndices s r
+
+  -- Example: from `[1x]` to `[1y]` for `1y`.
+  -- The list `r` is the list `s` after an insertion of `x` that replaces an equal element; a new one is appended.
+  pub record PutsItem (s : List T) (x : T) (r : List T) : Type 0 where
+    pub elements : r ≡ put_item eq s x
+    -- What queries find, and for which tests an element passes, if they do not tell equal elements apart.
+    pub updates : UpdatesMember eq (eq x) s r true
+    pub any : (f : T → Bool) → AgreesOnEquals eq f → list_any f r ≡ (f x || list_any f s)
+    -- Where a new element is.
+    pub appended : stored_item eq s x ≡ None → r ≡ s ++ x ∷ []
+    pub len : length r ≡ length s + (if is_some (stored_item eq s x) then 0 else 1)
+    pub indices : KeepsItemIndices eq s r
