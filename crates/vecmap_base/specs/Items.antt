@@ -3,6 +3,7 @@
 use Rattle.std.specs.Prelude.{◌≡◌, ℕ, Bool, IsTrue, List, [], ◌∷◌, ◌++◌, Option, if◌then◌else◌, filter, fold, insert, length, not, position, remove, slice_get, slice_set}
 use Rattle.std.specs.Cmp.{IsEquivalence}
 use Rattle.std.specs.List.{list_any, swap_remove}
+use Rattle.std.specs.List.Sorted.{IsPermutation}
 use Rattle.std.specs.Option.{option_and_then, option_map_or}
 use Rattle.std.specs.Set.{is_member}
 use Rattle.vecmap_base.specs.Equality.{has_same_items}
@@ -20,6 +21,7 @@ moved s from to = option_map_or (λ x. insert (remove s from) to x) (slice_get s
 -- Example: from `[a, b]` to `[b, a]`.
 -- The list `r` has the elements of `s`, as far as tests, lengths and an equivalence can tell.
 pub record IsReorderedItems {T : Type 0} (s r : List T) : Type 0 where
+  pub rearranged : IsPermutation s r
   pub matches : (test : T → Bool) → list_any test r ≡ list_any test s
   pub len : length r ≡ length s
   pub equal : (eq : T → T → Bool) → IsEquivalence eq → IsTrue (has_same_items eq r s)

@@ -14,4 +14,5 @@ pub mod Orders
 pub mod Pairs
 pub mod Ranges
 pub mod Removals
+pub mod Reorders
 pub mod Updated

@@ -1,6 +1,7 @@
 -- What lookups find after a change of a list of pairs. `eq` is the `==` of keys.
 use Rattle.std.specs.Prelude.{◌≡◌, ◌+◌, ◌<◌, ◌≤◌, ℕ, Bool, IsTrue, List, None, Option, Some, cond, false, is_some, length, min, position, slice_get, slice_set, take, true}
 use Rattle.std.specs.List.{list_any}
+use Rattle.std.specs.List.Sorted.{IsPermutation}
 use Rattle.std.specs.Option.{option_or}
 use Rattle.std.specs.Set.{is_member, KeepsOthers as KeepsOtherItems}
 use Rattle.std.specs.Cmp.{IsEquivalence}
@@ -48,6 +49,7 @@ module _ {K V : Type 0} where
   -- Each query matches a key of the list `m` exactly if it matches one of `l`, and finds what it found if all keys of
   -- `l` are distinct. The lists have the same length, and are equal as maps.
   pub record IsReordered (l m : List (K × V)) : Type 0 where
+    pub rearranged : IsPermutation l m
     pub matches : (test : K → Bool) → is_some (index_by test m) ≡ is_some (index_by test l)
     pub lookups : (eq : K → K → Bool) → IsEquivalence eq → HasDistinctKeys eq l → KeepsLookups eq l m
     pub len : length m ≡ length l

@@ -1,14 +1,10 @@
 //! Reversing, moving, swapping and sorting the pairs.
-ghost use Rattle.std.specs.Prelude.{◌≡◌, ◌-◌, ◌<◌, ◌≤◌, ℕ, Bool, IsOk, OnErr, OnOk, Some, false, length, nat_eq, reverse, slice_get, swap};
-ghost use Rattle.std.specs.Cmp.{IsEquivalence};
-ghost use Rattle.std.specs.List.Sorted.{IsPermutation, IsSortedByKey, IsStableByKey};
-ghost use Rattle.std.specs.Map.{IsKeyTest, keys_of};
+ghost use Rattle.std.specs.Prelude.{◌≡◌, ◌<◌, ◌≤◌, Bool, IsOk, OnErr, OnOk, length};
+ghost use Rattle.std.specs.List.Sorted.{IsSortedByKey, IsStableByKey};
 ghost use Rattle.std.specs.Ordering.{is_lt};
-ghost use Rattle.vecmap_base.specs.Items.{moved};
-ghost use Rattle.vecmap_base.specs.Indices.{MovesIndex};
 ghost use Rattle.vecmap_base.specs.Lookups.{IsReordered};
 ghost use Rattle.vecmap_base.specs.Orders.{ComparesPairsAs, IsSortedByPairClosure, IsSortedByPairKey, IsStableByPairClosure, IsStableByPairKey, ReturnsOnPair};
-ghost use Rattle.vecmap_base.specs.Pairs.{HasDistinctKeys, index_by};
+ghost use Rattle.vecmap_base.specs.Reorders.{MovesPair, ReversesPairs, SwapsPairs};
 
 use crate::VecMap;
 use std::alloc::AllocError;
@@ -29,20 +25,9 @@ impl<K, V> VecMap<K, V> {
     /// map.reverse();
     /// map.as_slice() // [('c', 3), ('b', 2), ('a', 1)]
     /// ```
-    #[tactic(auto, using(vecmap_base::proofs::PairsLemmas::Reordered::reorders))]
     pub fn reverse(&mut self)
-        ensures entries { self.new.entries ≡ reverse self.old.entries }
+        ensures reordered { ReversesPairs self.old.entries self.new.entries }
         ensures capacity { self.new.capacity ≡ self.old.capacity }
-
-        // What follows for lookups, lengths and indices.
-        ensures reordered { IsReordered self.old.entries self.new.entries }
-        ensures moves { (i : ℕ) → i < length self.old.entries → MovesIndex i
-            (length self.old.entries - 1 - i) self.old.entries self.new.entries }
-        ensures indices { (eq : K → K → Bool) (test : K → Bool) (i : ℕ)
-            → index_by test self.old.entries ≡ Some i → IsEquivalence eq → IsKeyTest eq test
-            → HasDistinctKeys eq self.old.entries → index_by test self.new.entries
-            ≡ Some (length self.old.entries - 1 - i) }
-        ensures keys { keys_of self.new.entries ≡ reverse (keys_of self.old.entries) }
     {
         self.pairs.reverse();
     }
@@ -65,19 +50,11 @@ impl<K, V> VecMap<K, V> {
     /// map.swap_indices(0, 2);
     /// map.as_slice() // [('c', 3), ('b', 2), ('a', 1)]
     /// ```
-    #[tactic(auto, using(vecmap_base::proofs::PairsLemmas::Reordered::reorders))]
     pub fn swap_indices(&mut self, a: usize, b: usize)
         requires a_within { a < length self.old.entries }
         requires b_within { b < length self.old.entries }
-        ensures entries { self.new.entries ≡ swap self.old.entries a b }
+        ensures reordered { SwapsPairs a b self.old.entries self.new.entries }
         ensures capacity { self.new.capacity ≡ self.old.capacity }
-
-        // What follows for lookups, lengths and indices.
-        ensures reordered { IsReordered self.old.entries self.new.entries }
-        ensures moves { MovesIndex a b self.old.entries self.new.entries }
-        ensures moves_back { MovesIndex b a self.old.entries self.new.entries }
-        ensures elsewhere { (i : ℕ) → nat_eq i a ≡ false → nat_eq i b ≡ false
-            → MovesIndex i i self.old.entries self.new.entries }
     {
         self.pairs.swap(a, b);
     }
@@ -100,20 +77,11 @@ impl<K, V> VecMap<K, V> {
     /// map.move_index(0, 2);
     /// map.as_slice() // [('b', 2), ('c', 3), ('a', 1)]
     /// ```
-    #[tactic(auto, using(vecmap_base::proofs::PairsLemmas::Reordered::reorders))]
     pub fn move_index(&mut self, from: usize, to: usize)
         requires from_within { from < length self.old.entries }
         requires to_within { to < length self.old.entries }
-        ensures entries { self.new.entries ≡ moved self.old.entries from to }
+        ensures reordered { MovesPair from to self.old.entries self.new.entries }
         ensures capacity { self.new.capacity ≡ self.old.capacity }
-
-        // What follows for lookups, lengths and indices.
-        ensures reordered { IsReordered self.old.entries self.new.entries }
-        ensures moves { MovesIndex from to self.old.entries self.new.entries }
-        ensures elsewhere { (i : ℕ) → i < from → i < to
-            → slice_get self.new.entries i ≡ slice_get self.old.entries i }
-        ensures indices { (test : K → Bool) (i : ℕ) → index_by test self.old.entries ≡ Some i
-            → i < from → i < to → index_by test self.new.entries ≡ Some i }
     {
         move_to(&mut self.pairs, from, to);
     }
@@ -135,19 +103,15 @@ impl<K, V> VecMap<K, V> {
     /// map.sort_keys()?;
     /// map.as_slice() // [('a', 2), ('b', 1)]
     /// ```
-    #[tactic(auto, using(vecmap_base::proofs::PairsLemmas::Reordered::reorders))]
     pub fn sort_keys(&mut self) -> Result<(), AllocError>
     where
         K: Ord,
         ensures sorted { OnOk result (IsSortedByKey (λ p. p.0) K.cmp self.new.entries) }
         ensures stable { IsStableByKey (λ p. p.0) K.cmp self.old.entries self.new.entries }
-        ensures rearranged { IsPermutation self.old.entries self.new.entries }
+        ensures reordered { IsReordered self.old.entries self.new.entries }
         ensures err { OnErr result (self.new ≡ self.old) }
         ensures succeeds { length self.old.entries ≤ 20 → IsOk result }
         ensures capacity { self.new.capacity ≡ self.old.capacity }
-
-        // What follows for lookups, lengths and indices.
-        ensures reordered { IsReordered self.old.entries self.new.entries }
     {
         self.sort_by(|a, b| a.0.cmp(b.0))
     }
@@ -175,18 +139,14 @@ impl<K, V> VecMap<K, V> {
     /// map.sort_by(|a, b| b.1.cmp(a.1))?;
     /// map.as_slice() // [('b', 2), ('a', 1)]
     /// ```
-    #[tactic(auto, using(vecmap_base::proofs::PairsLemmas::Reordered::reorders))]
     pub fn sort_by<F: Fn((&K, &V), (&K, &V)) -> Ordering>(&mut self, f: F) -> Result<(), AllocError>
         requires { F.IsAlwaysCallable f }
         ensures sorted { OnOk result (IsSortedByPairClosure F.Fn f self.new.entries) }
         ensures stable { IsStableByPairClosure F.Fn f self.old.entries self.new.entries }
-        ensures rearranged { IsPermutation self.old.entries self.new.entries }
+        ensures reordered { IsReordered self.old.entries self.new.entries }
         ensures err { OnErr result (self.new ≡ self.old) }
         ensures succeeds { length self.old.entries ≤ 20 → IsOk result }
         ensures capacity { self.new.capacity ≡ self.old.capacity }
-
-        // What follows for lookups, lengths and indices.
-        ensures reordered { IsReordered self.old.entries self.new.entries }
     {
         self.pairs.sort_by(
             |a: &(K, V), b: &(K, V)| -> Ordering
@@ -220,7 +180,6 @@ impl<K, V> VecMap<K, V> {
     /// map.sort_by_cached_key(|key, _value| *key)?;
     /// map.as_slice() // [('a', 2), ('b', 1)]
     /// ```
-    #[tactic(auto, using(vecmap_base::proofs::PairsLemmas::Reordered::reorders))]
     pub fn sort_by_cached_key<T: Ord + Drop, F: Fn(&K, &V) -> T>(
         &mut self,
         f: F,
@@ -228,13 +187,10 @@ impl<K, V> VecMap<K, V> {
         requires { F.IsAlwaysCallable f }
         ensures sorted { OnOk result (IsSortedByPairKey F.Fn T.cmp f self.new.entries) }
         ensures stable { IsStableByPairKey F.Fn T.cmp f self.old.entries self.new.entries }
-        ensures rearranged { IsPermutation self.old.entries self.new.entries }
+        ensures reordered { IsReordered self.old.entries self.new.entries }
         ensures err { OnErr result (self.new ≡ self.old) }
         ensures succeeds { length self.old.entries ≤ 1 → IsOk result }
         ensures capacity { self.new.capacity ≡ self.old.capacity }
-
-        // What follows for lookups, lengths and indices.
-        ensures reordered { IsReordered self.old.entries self.new.entries }
     {
         self.pairs.sort_by_cached_key(
             |a: &(K, V)| -> T
@@ -257,16 +213,12 @@ impl<K, V> VecMap<K, V> {
     /// map.sort_unstable_keys();
     /// map.as_slice() // [('a', 2), ('b', 1)]
     /// ```
-    #[tactic(auto, using(vecmap_base::proofs::PairsLemmas::Reordered::reorders))]
     pub fn sort_unstable_keys(&mut self)
     where
         K: Ord,
         ensures sorted { IsSortedByKey (λ p. p.0) K.cmp self.new.entries }
-        ensures rearranged { IsPermutation self.old.entries self.new.entries }
-        ensures capacity { self.new.capacity ≡ self.old.capacity }
-
-        // What follows for lookups, lengths and indices.
         ensures reordered { IsReordered self.old.entries self.new.entries }
+        ensures capacity { self.new.capacity ≡ self.old.capacity }
     {
         self.sort_unstable_by(|a, b| a.0.cmp(b.0));
     }
@@ -290,15 +242,11 @@ impl<K, V> VecMap<K, V> {
     /// map.sort_unstable_by(|a, b| b.1.cmp(a.1));
     /// map.as_slice() // [('b', 2), ('a', 1)]
     /// ```
-    #[tactic(auto, using(vecmap_base::proofs::PairsLemmas::Reordered::reorders))]
     pub fn sort_unstable_by<F: Fn((&K, &V), (&K, &V)) -> Ordering>(&mut self, f: F)
         requires { F.IsAlwaysCallable f }
         ensures sorted { IsSortedByPairClosure F.Fn f self.new.entries }
-        ensures rearranged { IsPermutation self.old.entries self.new.entries }
-        ensures capacity { self.new.capacity ≡ self.old.capacity }
-
-        // What follows for lookups, lengths and indices.
         ensures reordered { IsReordered self.old.entries self.new.entries }
+        ensures capacity { self.new.capacity ≡ self.old.capacity }
     {
         self.pairs.sort_unstable_by(
             |a: &(K, V), b: &(K, V)| -> Ordering

@@ -11,10 +11,8 @@ use Rattle.std.proofs.lemmas.Option.{none-some, slice_get-get_or}
 use Rattle.std.specs.{List.swap_remove, Option.option_map_or}
 use Rattle.vecmap_base.specs.Items.{moved, put_item, swap_without, item_index}
 use Rattle.vecmap_base.proofs.IndexLemmas.{position_cons, later, list_any_position, position_front, position_stays}
-pub use Rattle.vecmap_base.proofs.MoveLemmas.{at_reversed}
 use Rattle.vecmap_base.proofs.ItemsLemmas.Recursion.{put_item_cons}
 use Rattle.vecmap_set.specs.Indices.{KeepsMatchIndices, KeepsMatchIndicesBelow, KeepsItemIndices, MovesItemIndex, ShiftsItems}
-use Rattle.vecmap_base.proofs.{MoveLemmas.moved_item, MoveLemmas.moved_other, MoveLemmas.swapped_item, MoveLemmas.swapped_item_back, MoveLemmas.swapped_other}
 pub use Rattle.vecmap_base.proofs.IndexLemmas.{found_item_at, stored_last}
 
 module _ {T : Type 0} (test : T → Bool) where
@@ -60,25 +58,7 @@ module _ {T : Type 0} (test : T → Bool) where
         let found = found_item_at test s (Some i) (sym e) in
         position_own r d j found.0 (at ∙ found.1) found.2
 
--- Where an item is after a move and after a swap.
 module _ {T : Type 0} where
-  pub at_moved : (s r : List T) (i j : ℕ) → i < length s → j < length s → r ≡ moved s i j → slice_get r j ≡ slice_get s i
-  at_moved s r i j h k e = moved_item s r i j e h k
-
-  -- The items before both indices of a move stay.
-  pub before_moved : (s r : List T) (i j k : ℕ) → i < length s → j < length s → r ≡ moved s i j → k < i → k < j → slice_get r k ≡ slice_get s k
-  before_moved s r i j k h m e l n = moved_other s r i j k e h l n
-
-  -- The items at other indices than those of a swap stay.
-  pub elsewhere_swapped : (s r : List T) (i j k : ℕ) → i < length s → j < length s → r ≡ swap s i j → nat_eq k i ≡ false → nat_eq k j ≡ false → slice_get r k ≡ slice_get s k
-  elsewhere_swapped s r i j k h m e n o = swapped_other s r i j k e h m n o
-
-  pub at_swapped : (s r : List T) (i j : ℕ) → i < length s → j < length s → r ≡ swap s i j → slice_get r j ≡ slice_get s i
-  at_swapped s r i j h k e = swapped_item s r i j e h k
-
-  pub at_swapped_back : (s r : List T) (i j : ℕ) → i < length s → j < length s → r ≡ swap s i j → slice_get r i ≡ slice_get s j
-  at_swapped_back s r i j h k e = swapped_item_back s r i j e h k
-
   -- After a removal by swap the last item is at the index.
   pub at_swap_removed : (s r : List T) (i : ℕ) (x : T) → r ≡ swap_without s i → slice_get s i ≡ Some x → i < length s - 1 → slice_get r i ≡ slice_get s (length s - 1)
   at_swap_removed s r i x e at h =

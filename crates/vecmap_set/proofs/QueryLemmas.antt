@@ -9,7 +9,6 @@ use Rattle.std.specs.List.{swap_remove}
 use Rattle.std.specs.Option.{option_and_then, option_map_or}
 use Rattle.std.specs.Set.{is_member}
 use Rattle.vecmap_base.specs.Items.{IsReorderedItems, add, put_item, stored_first, swap_without}
-use Rattle.vecmap_base.proofs.EqualityLemmas.Sets.{same_items}
 use Rattle.vecmap_base.proofs.ItemsLemmas.{Members.or_true, Recursion.put_item_cons}
 use Rattle.vecmap_set.proofs.IndexLemmas.{found_item_at}
 
@@ -61,17 +60,3 @@ module _ {T : Type 0} (eq : T → T → Bool) (s r : List T) (x : T) where
 
   pub any_of_put : r ≡ put_item eq s x → (f : T → Bool) → ((x y : T) → eq x y ≡ true → f y ≡ f x) → list_any f r ≡ (f x || list_any f s)
   any_of_put e f same = ap (list_any f) e ∙ any_put eq f same s x
-
--- The clause `reordered`.
-module _ {T : Type 0} (s r : List T) where
-  pub items_reordered : IsPermutation s r → IsReorderedItems s r
-  items_reordered p = grind (arith, list_any-IsPermutation, length_permutation, same_items)
-
-  pub items_reordered_by_reverse : r ≡ reverse s → IsReorderedItems s r
-  items_reordered_by_reverse e = items_reordered (subst (IsPermutation s) (sym e) (IsPermutation-reverse s))
-
-  pub items_reordered_by_swap : (i j : ℕ) → i < length s → j < length s → r ≡ swap s i j → IsReorderedItems s r
-  items_reordered_by_swap i j h k e = items_reordered (IsPermutation-swap s r i j h k e)
-
--- The lemmas for the clause `reordered`.
-pub ruleset reorders = (items_reordered, items_reordered_by_reverse, items_reordered_by_swap)

@@ -1,9 +1,9 @@
 //! Reversing, moving, swapping and sorting the elements.
-ghost use Rattle.std.specs.Prelude.{◌≡◌, ◌-◌, ◌<◌, ◌≤◌, ℕ, IsOk, OnErr, OnOk, false, length, nat_eq, reverse, swap};
+ghost use Rattle.std.specs.Prelude.{◌≡◌, ◌<◌, ◌≤◌, IsOk, OnErr, OnOk, length};
 ghost use Rattle.std.specs.List.{IsDistinct};
-ghost use Rattle.std.specs.List.Sorted.{IsPermutation, IsSorted, IsSortedByClosure, IsSortedByKeyClosure, IsStable, IsStableByClosure, IsStableByKeyClosure};
-ghost use Rattle.vecmap_base.specs.Items.{IsReorderedItems, moved};
-ghost use Rattle.vecmap_set.specs.Indices.{MovesItemIndex};
+ghost use Rattle.std.specs.List.Sorted.{IsSorted, IsSortedByClosure, IsSortedByKeyClosure, IsStable, IsStableByClosure, IsStableByKeyClosure};
+ghost use Rattle.vecmap_base.specs.Items.{IsReorderedItems};
+ghost use Rattle.vecmap_set.specs.Reorders.{MovesItem, ReversesItems, SwapsItems};
 
 use crate::VecSet;
 use std::alloc::AllocError;
@@ -26,14 +26,8 @@ impl<T: Eq> VecSet<T> {
     /// ```
     #[tactic(auto, using(vecmap_base::proofs::DistinctLemmas::Order::distinct_reverse))]
     pub fn reverse(&mut self)
-        ensures elements { self.new.elements ≡ reverse self.old.elements }
-        ensures distinct { IsDistinct T.eq self.new.elements }
+        ensures reordered { ReversesItems T.eq self.old.elements self.new.elements }
         ensures capacity { self.new.capacity ≡ self.old.capacity }
-
-        // What follows for lookups, lengths and indices.
-        ensures reordered { IsReorderedItems self.old.elements self.new.elements }
-        ensures moves { (i : ℕ) → i < length self.old.elements → MovesItemIndex T.eq i
-            (length self.old.elements - 1 - i) self.old.elements self.new.elements }
     {
         self.items.reverse();
     }
@@ -56,20 +50,11 @@ impl<T: Eq> VecSet<T> {
     /// set.swap_indices(0, 2);
     /// set.as_slice() // [3, 2, 1]
     /// ```
-    #[tactic(auto, using(crate::proofs::QueryLemmas::reorders))]
     pub fn swap_indices(&mut self, a: usize, b: usize)
         requires a_within { a < length self.old.elements }
         requires b_within { b < length self.old.elements }
-        ensures elements { self.new.elements ≡ swap self.old.elements a b }
-        ensures distinct { IsDistinct T.eq self.new.elements }
+        ensures reordered { SwapsItems T.eq a b self.old.elements self.new.elements }
         ensures capacity { self.new.capacity ≡ self.old.capacity }
-
-        // What follows for lookups, lengths and indices.
-        ensures reordered { IsReorderedItems self.old.elements self.new.elements }
-        ensures moves { MovesItemIndex T.eq a b self.old.elements self.new.elements }
-        ensures moves_back { MovesItemIndex T.eq b a self.old.elements self.new.elements }
-        ensures elsewhere { (i : ℕ) → nat_eq i a ≡ false → nat_eq i b ≡ false
-            → MovesItemIndex T.eq i i self.old.elements self.new.elements }
     {
         self.items.swap(a, b);
     }
@@ -92,19 +77,11 @@ impl<T: Eq> VecSet<T> {
     /// set.move_index(0, 2);
     /// set.as_slice() // [2, 3, 1]
     /// ```
-    #[tactic(auto, using(crate::proofs::QueryLemmas::reorders))]
     pub fn move_index(&mut self, from: usize, to: usize)
         requires from_within { from < length self.old.elements }
         requires to_within { to < length self.old.elements }
-        ensures elements { self.new.elements ≡ moved self.old.elements from to }
-        ensures distinct { IsDistinct T.eq self.new.elements }
+        ensures reordered { MovesItem T.eq from to self.old.elements self.new.elements }
         ensures capacity { self.new.capacity ≡ self.old.capacity }
-
-        // What follows for lookups, lengths and indices.
-        ensures reordered { IsReorderedItems self.old.elements self.new.elements }
-        ensures moves { MovesItemIndex T.eq from to self.old.elements self.new.elements }
-        ensures elsewhere { (i : ℕ) → i < from → i < to
-            → MovesItemIndex T.eq i i self.old.elements self.new.elements }
     {
         move_to(&mut self.items, from, to);
     }
@@ -126,20 +103,16 @@ impl<T: Eq> VecSet<T> {
     /// set.sort()?;
     /// set.as_slice() // [1, 2]
     /// ```
-    #[tactic(auto, using(crate::proofs::QueryLemmas::reorders))]
     pub fn sort(&mut self) -> Result<(), AllocError>
     where
         T: Ord,
         ensures sorted { OnOk result (IsSorted T.cmp self.new.elements) }
         ensures stable { IsStable T.cmp self.old.elements self.new.elements }
-        ensures rearranged { IsPermutation self.old.elements self.new.elements }
+        ensures reordered { IsReorderedItems self.old.elements self.new.elements }
         ensures err { OnErr result (self.new ≡ self.old) }
         ensures succeeds { length self.old.elements ≤ 20 → IsOk result }
         ensures distinct { IsDistinct T.eq self.new.elements }
         ensures capacity { self.new.capacity ≡ self.old.capacity }
-
-        // What follows for lookups, lengths and indices.
-        ensures reordered { IsReorderedItems self.old.elements self.new.elements }
     {
         self.items.sort()
     }
@@ -167,19 +140,15 @@ impl<T: Eq> VecSet<T> {
     /// set.sort_by(|a, b| b.cmp(a))?;
     /// set.as_slice() // [2, 1]
     /// ```
-    #[tactic(auto, using(crate::proofs::QueryLemmas::reorders))]
     pub fn sort_by<F: Fn(&T, &T) -> Ordering>(&mut self, f: F) -> Result<(), AllocError>
         requires { F.IsAlwaysCallable f }
         ensures sorted { OnOk result (IsSortedByClosure F.FnMut f self.new.elements) }
         ensures stable { IsStableByClosure F.FnMut f self.old.elements self.new.elements }
-        ensures rearranged { IsPermutation self.old.elements self.new.elements }
+        ensures reordered { IsReorderedItems self.old.elements self.new.elements }
         ensures err { OnErr result (self.new ≡ self.old) }
         ensures succeeds { length self.old.elements ≤ 20 → IsOk result }
         ensures distinct { IsDistinct T.eq self.new.elements }
         ensures capacity { self.new.capacity ≡ self.old.capacity }
-
-        // What follows for lookups, lengths and indices.
-        ensures reordered { IsReorderedItems self.old.elements self.new.elements }
     {
         self.items.sort_by(f)
     }
@@ -207,7 +176,6 @@ impl<T: Eq> VecSet<T> {
     /// set.sort_by_cached_key(|item| *item)?;
     /// set.as_slice() // [1, 2]
     /// ```
-    #[tactic(auto, using(crate::proofs::QueryLemmas::reorders))]
     pub fn sort_by_cached_key<K: Ord + Drop, F: Fn(&T) -> K>(
         &mut self,
         f: F,
@@ -215,14 +183,11 @@ impl<T: Eq> VecSet<T> {
         requires { F.IsAlwaysCallable f }
         ensures sorted { OnOk result (IsSortedByKeyClosure F.FnMut K.cmp f self.new.elements) }
         ensures stable { IsStableByKeyClosure F.FnMut K.cmp f self.old.elements self.new.elements }
-        ensures rearranged { IsPermutation self.old.elements self.new.elements }
+        ensures reordered { IsReorderedItems self.old.elements self.new.elements }
         ensures err { OnErr result (self.new ≡ self.old) }
         ensures succeeds { length self.old.elements ≤ 1 → IsOk result }
         ensures distinct { IsDistinct T.eq self.new.elements }
         ensures capacity { self.new.capacity ≡ self.old.capacity }
-
-        // What follows for lookups, lengths and indices.
-        ensures reordered { IsReorderedItems self.old.elements self.new.elements }
     {
         self.items.sort_by_cached_key(f)
     }
@@ -240,17 +205,13 @@ impl<T: Eq> VecSet<T> {
     /// set.sort_unstable();
     /// set.as_slice() // [1, 2]
     /// ```
-    #[tactic(auto, using(crate::proofs::QueryLemmas::reorders))]
     pub fn sort_unstable(&mut self)
     where
         T: Ord,
         ensures sorted { IsSorted T.cmp self.new.elements }
-        ensures rearranged { IsPermutation self.old.elements self.new.elements }
+        ensures reordered { IsReorderedItems self.old.elements self.new.elements }
         ensures distinct { IsDistinct T.eq self.new.elements }
         ensures capacity { self.new.capacity ≡ self.old.capacity }
-
-        // What follows for lookups, lengths and indices.
-        ensures reordered { IsReorderedItems self.old.elements self.new.elements }
     {
         self.items.sort_unstable();
     }
@@ -274,16 +235,12 @@ impl<T: Eq> VecSet<T> {
     /// set.sort_unstable_by(|a, b| b.cmp(a));
     /// set.as_slice() // [2, 1]
     /// ```
-    #[tactic(auto, using(crate::proofs::QueryLemmas::reorders))]
     pub fn sort_unstable_by<F: Fn(&T, &T) -> Ordering>(&mut self, f: F)
         requires { F.IsAlwaysCallable f }
         ensures sorted { IsSortedByClosure F.FnMut f self.new.elements }
-        ensures rearranged { IsPermutation self.old.elements self.new.elements }
+        ensures reordered { IsReorderedItems self.old.elements self.new.elements }
         ensures distinct { IsDistinct T.eq self.new.elements }
         ensures capacity { self.new.capacity ≡ self.old.capacity }
-
-        // What follows for lookups, lengths and indices.
-        ensures reordered { IsReorderedItems self.old.elements self.new.elements }
     {
         self.items.sort_unstable_by(f);
     }

@@ -1,5 +1,6 @@
 use Rattle.std.proofs.Common.{rules}
 use Rattle.vecmap_base.proofs.DistinctLemmas.Order.{distinct_rearranged}
+use Rattle.vecmap_set.proofs.ReorderLemmas.{items_reordered}
 use Rattle.vecmap_set.proofs.VecSet.sort_by_cached_key.Goals as goal
 
 pub invariant_of-self : goal.invariant_of-self
@@ -7,3 +8,6 @@ invariant_of-self g c = distinct_rearranged _ g.met.T.Eq.laws c.self.inside.item
 
 pub returns-clause-distinct : goal.returns-clause-distinct
 returns-clause-distinct g c = invariant_of-self g c
+
+pub returns-clause-reordered : goal.returns-clause-reordered
+returns-clause-reordered g c = rw (← c.self.view_is) (items_reordered _ _ c.sort_by_cached_key.ensures.permutation)

@@ -1,0 +1,36 @@
+-- What a reversal, a swap and a move of elements leave of a set. `eq` is the `==` of the elements.
+use Rattle.std.specs.Prelude.{◌≡◌, ◌-◌, ◌<◌, ℕ, Bool, List, false, length, nat_eq, reverse, swap}
+use Rattle.std.specs.List.{IsDistinct}
+use Rattle.vecmap_base.specs.Items.{IsReorderedItems, moved}
+use Rattle.vecmap_set.specs.Indices.{MovesItemIndex}
+
+module _ {T : Type 0} (eq : T → T → Bool) where
+  -- Example: from `[1, 2, 3]` to `[3, 2, 1]`.
+  -- The list `r` is the list `s` in reverse order.
+  pub record ReversesItems (s r : List T) : Type 0 where
+    pub elements : r ≡ reverse s
+    pub distinct : IsDistinct eq r
+    -- What queries find, and where.
+    pub reordered : IsReorderedItems s r
+    pub moves : (i : ℕ) → i < length s → MovesItemIndex eq i (length s - 1 - i) s r
+
+  -- Example: from `[1, 2, 3]` to `[3, 2, 1]` for the indices 0 and 2.
+  -- The list `r` is the list `s` with the elements at the indices `a` and `b` swapped.
+  pub record SwapsItems (a b : ℕ) (s r : List T) : Type 0 where
+    pub elements : r ≡ swap s a b
+    pub distinct : IsDistinct eq r
+    -- What queries find, and where.
+    pub reordered : IsReorderedItems s r
+    pub moves : MovesItemIndex eq a b s r
+    pub moves_back : MovesItemIndex eq b a s r
+    pub elsewhere : (i : ℕ) → nat_eq i a ≡ false → nat_eq i b ≡ false → MovesItemIndex eq i i s r
+
+  -- Example: from `[1, 2, 3]` to `[2, 3, 1]` for the indices 0 and 2.
+  -- The list `r` is the list `s` after the element at the index `from` has moved to the index `to`.
+  pub record MovesItem (from to : ℕ) (s r : List T) : Type 0 where
+    pub elements : r ≡ moved s from to
+    pub distinct : IsDistinct eq r
+    -- What queries find, and where.
+    pub reordered : IsReorderedItems s r
+    pub moves : MovesItemIndex eq from to s r
+    pub elsewhere : (i : ℕ) → i < from → i < to → MovesItemIndex eq i i s r
