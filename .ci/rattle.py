@@ -1,14 +1,14 @@
-"""What the scripts of this folder share: the frame, files, definitions, tables, and headings of rows.
+"""What the scripts of this folder share: the frame, files, made crates, definitions, tables, and headings of rows.
 
 The items of a source are read by `laws_for.py`, which users of the library get without this folder.
 """
 
 import collections
-import difflib
 import functools
 import glob
 import os
 import re
+import subprocess
 import sys
 
 sys.path.append(os.path.join(os.path.dirname(os.path.abspath(__file__)), "../crates/vecmap"))
@@ -22,6 +22,8 @@ LAWS = "vecmap_laws"
 # The crates whose definitions users can meet.
 DEFINED = [*LIBRARIES, LAWS]
 WRITES = sys.argv[1:2] == ["--write"]
+# The repository in which a script is to make a crate, if it is run with `make FOLDER`.
+FOLDER = os.path.abspath(sys.argv[2]) if sys.argv[1:2] == ["make"] else ""
 # The comment of a public definition, its indentation, its name, and the rest: lines up to an empty one.
 DEFINITION = re.compile(
     r"((?:^ *-- .*\n)*)^( *)(?:abbrev pub|(?:unfoldable )?pub(?: record| data)?) (?!mod |use )([\w']+) "
@@ -40,12 +42,10 @@ BLOCK = re.compile(r"^(?:<!-- ((?:(?!-->)(?:.|\n))*?)\s*-->\n)?```(.*)\n((?:.*\n
 USERS_FILE = re.compile(r"(?:(?://|--|#) )?(crates[./]\S+)")
 # The script of the test cases.
 SCRIPT = "crates/vecmap_script/stdin"
-# A heading of a script: its part, its text, the texts of the lines `# WORD:` below it, by the word, and its rows.
-Heading = collections.namedtuple("Heading", "part text notes rows")
-# A row of a script, and the lines above it that set the collections up.
-Row = collections.namedtuple("Row", "text begun")
-# The page of mutants: each row has one, and what rejects it.
-MUTANTS = "docs/WRONG_BODIES.md"
+# The words that begin a line of the script that is no row, but sets the collections up.
+SET_UP = "map repeats set spare other swap again clones_fail".split()
+# A heading of the script: its part, its text, the comments below it, its other lines, and which of these are rows.
+Heading = collections.namedtuple("Heading", "part text notes lines rows")
 
 
 def end(check):
@@ -58,15 +58,6 @@ def end(check):
     sys.exit(1 if faults else 0)
 
 
-def compared(path, made):
-    """Says in two lines where a file differs from what the sources make of it, or writes it."""
-    if WRITES:
-        write(path, made)
-    changes = list(difflib.unified_diff(read(path).splitlines(), made.splitlines(), path, "made", "", "", 0, ""))
-    by = f"{path}: differs from the sources ({sys.argv[0]} --write)"
-    return [*changes[3:5], by] if changes else []
-
-
 def table_rows(text):
     """Returns the cells of each row of the tables of a text. The first two rows of a table are its head and a line."""
     rows = (re.split(r"(?<!\\)\|", line)[1:-1] for line in text.splitlines() if line.startswith("|"))
@@ -77,12 +68,6 @@ def table(rows):
     """Returns a table of some rows, the first of which is its head."""
     first, *rest = ("| " + " | ".join(map(str, row)) + " |\n" for row in rows)
     return first.replace("|  |", "| |") + "|---" * len(rows[0]) + "|\n" + "".join(rest)
-
-
-def mutants():
-    """Yields the mutants of their page: for each the heading above it, and the text."""
-    for section in read(MUTANTS).split("\n## ")[1:]:
-        yield from ((section.splitlines()[0], row[0]) for row in table_rows(section)[2:])
 
 
 def read(path):
@@ -98,6 +83,32 @@ def write(path, text):
     os.makedirs(os.path.dirname(path) or ".", exist_ok=True)
     with open(path, "w", encoding="utf-8") as file:
         file.write(text)
+
+
+def run(command, folder="."):
+    """Runs a command of the shell in a folder. Returns the run, with all that it printed."""
+    pipes = {"stdout": subprocess.PIPE, "stderr": subprocess.STDOUT}
+    return subprocess.run(command, cwd=folder, shell=True, text=True, check=False, **pipes)
+
+
+def copy_library(folder, *crates):
+    """Copies the library, and more crates, into a folder by `add-to`."""
+    os.makedirs(folder, exist_ok=True)
+    subprocess.run(["./add-to", folder, *crates], check=True, stdout=subprocess.DEVNULL)
+
+
+def write_crate(folder, name, needs, texts):
+    """Writes the files of a crate into a repository, those that only list modules, and the line of `crates.txt`."""
+    made = {}
+    for root, line in {"specs/Lib.antt": "pub mod {}\n", "proofs/Lib.antt": "mod {}\n", "src/lib.rt": "pub mod {};\n"}.items():
+        found = (re.fullmatch(rf"{os.path.dirname(root)}/(\w+)\.\w+", path) for path in sorted(texts))
+        made[root] = "".join(line.format(it[1]) for it in found if it)
+    root = made.pop("src/lib.rt")
+    made |= {} if "src/main.rt" in texts else {"src/lib.rt": "\n".join(filter(None, ["#![tactic(auto)]\n", root]))}
+    for path, text in {**made, **texts}.items():
+        write(f"{folder}/crates/{name}/{path}", text)
+    kept = [it for it in read(f"{folder}/crates.txt").splitlines() if not it.startswith(f"{name}:")]
+    write(f"{folder}/crates.txt", "\n".join([*kept, f"{name}: {' '.join(needs)}", ""]))
 
 
 def files(*patterns):
@@ -211,33 +222,17 @@ def users_file(block):
     return found[1] if found else ""
 
 
-def tests():
-    """Returns all tests."""
-    return [it for it in functions(*sources()) if it.is_test()]
+def is_row(line):
+    """Whether a line of a script is a row: no comment, and none that sets the collections up."""
+    return line[:1] not in ("", "#") and line.split(" ")[0] not in SET_UP
 
 
-def is_set_up(line):
-    """Whether a line of a script is no row, but sets the collections up."""
-    return line.split(" ")[0] in ("map", "repeats", "set", "spare", "other", "swap", "again", "clones_fail")
-
-
-def headings(path):
-    """Returns the headings of a script, in order. A note without a heading makes one without rows."""
-    part, heading, found, begun = "", None, [], []
-    for line in read(path).splitlines():
-        note = re.match(r"# (\w+): (.*)", line)
-        if section := re.match(r"# =+ (\w+)", line):
-            part = section[1]
-        elif line.startswith("# ") and not (heading and note):
-            text = f'no heading above "{line}"' if note else line[2:]
-            heading = Heading(part, text, collections.defaultdict(list), [])
-            found.append(heading)
-        elif note:
-            heading.notes[note[1]].append(note[2])
-        elif is_set_up(line):
-            begun = [line] if line.split(" ")[0] in ("map", "repeats", "set") else [*begun, line]
-        elif line and heading:
-            heading.rows.append(Row(line, begun))
-        else:
-            heading = None
+def headings():
+    """Returns the headings of the script, in order. An empty line ends the rows of one."""
+    part, found = "", []
+    for block in read(SCRIPT).split("\n\n"):
+        part = [part, *re.findall(r"^# =+ (\w+)", block, re.MULTILINE)][-1]
+        text, *notes = [*re.findall(r"^# (?!=)(.*)", block, re.MULTILINE), ""]
+        lines = [line for line in block.splitlines() if not line.startswith("#")]
+        found += [Heading(part, text, notes[:-1], lines, [*filter(is_row, lines)])] if part and (text or lines) else []
     return found
