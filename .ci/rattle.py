@@ -190,24 +190,6 @@ def owner_of(item):
     return trait_and_type(head)[1].split("<")[0] if head else ""
 
 
-def listed(path):
-    """Returns what users see of a source: calls, methods of traits, macros, types, and what a type implements."""
-    found = list(items(path))
-    hidden = {"", "Model", "Sealed", *(it.name for it in found if it.kind == "trait" and not it.is_public)}
-    return [
-        it for it in found
-        if it.is_public or it.kind == "macro_rules!" or it.impl.startswith("pub trait") and it.doc()
-        or it.kind == "impl" and trait_and_type(it.text)[0].split("<")[0] not in hidden
-    ]
-
-
-def uncommented():
-    """Says which public calls, macros and laws have no comment."""
-    for item in (it for crate in DEFINED for path in sources(crate) for it in listed(path)):
-        if item.kind in ("fn", "macro_rules!") and not item.doc():
-            yield f"{item.path}:{item.line}: `{item.name}` has no comment"
-
-
 def blocks(path):
     """Yields the blocks of code of a page, or of the doc comments of a source."""
     text = re.sub(r"^ *//[/!] ?", "", read(path), flags=re.MULTILINE) if path.endswith(".rt") else read(path)
