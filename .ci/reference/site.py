@@ -29,7 +29,7 @@ PLACE = re.compile(r' id="((?:ty)?method\.[^"]+|impl-[^"]+)"|<div class="contrac
 # What rustdoc calls the definitions.
 CONSTANT = re.compile(r'(?<=[>"])Constant(?=s?[ <"])')
 # The sum of the text of `insert` that README's picture, `docs/call.png`, shows.
-PICTURE = "cf50ce271238f142"
+PICTURE = "13a38578a4e02849"
 
 
 def build(crate, root, needs, work, out):

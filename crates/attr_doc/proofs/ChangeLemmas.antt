@@ -1,15 +1,10 @@
 -- What a document is after a change of its map of maps.
 use Rattle.std.specs.Prelude.{◌≡◌, ◌++◌, ℕ, List, Ok, OnOk, Result, [], ◌∷◌, None, Option, Some, String, IsSome, option_map, unwrap_or, refl}
-use Rattle.std.specs.Option.{option_map_or}
-use Rattle.std.specs.Str.{str_eq_ignore_ascii_case}
-use Rattle.std.specs.declared.alloc.Global.{Global}
+use Rattle.std.specs.{Option.option_map_or, Str.str_eq_ignore_ascii_case, declared.alloc.Global.Global}
 use Rattle.std.proofs.Common.{sym, ap, ◌∙◌, subst}
-use Rattle.vecmap.specs.Contents.{Contents, with_value_of}
-use Rattle.vecmap_laws.proofs.WriteLemmas.{with_value_of_is_put}
-use Rattle.vecmap.specs.Pairs.{index_of, lookup, put, puts}
+use Rattle.vecmap.specs.{Contents.{Contents, with_value_of}, Pairs.{index_of, lookup, put, puts}}
+use Rattle.vecmap_laws.proofs.{WriteLemmas.with_value_of_is_put, AfterPuts.put_same, EachValue.{lookup_map_values, map_values_put}}
 use Rattle.attr_doc.specs.Documents.{Section, Sections, Stored, merge_of, sections_of, with_section, with_text}
-use Rattle.vecmap_laws.proofs.AfterPuts.{put_same}
-use Rattle.vecmap_laws.proofs.EachValue.{lookup_map_values, map_values_put}
 
 -- The insertion of a section in the map, seen in the document: what was made from the existing section is inserted.
 sections_put : (make : Option Section → Section) (l : List (List ℕ × Stored)) (s : List ℕ) (o : Option Stored) (m : Stored) → o ≡ lookup str_eq_ignore_ascii_case l s → m.entries ≡ make (option_map (λ x. x.entries) o)

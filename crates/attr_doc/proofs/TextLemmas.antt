@@ -4,9 +4,7 @@ use Rattle.std.specs.Str.{str_eq_ignore_ascii_case}
 use Rattle.std.proofs.Common.{sym, ap, ◌∙◌}
 use Rattle.vecmap.specs.Pairs.{index_of, lookup}
 use Rattle.attr_doc.specs.Documents.{Section, Stored, sections_of, text_of}
-use Rattle.vecmap_laws.proofs.AfterPuts.{is_some_lookup}
-use Rattle.vecmap_laws.proofs.EachValue.{lookup_map_values}
-use Rattle.vecmap_laws.proofs.PositionLemmas.{is_some-map}
+use Rattle.vecmap_laws.proofs.{AfterPuts.is_some_lookup, EachValue.lookup_map_values, PositionLemmas.is_some-map}
 
 -- The text under a name of a section.
 abbrev pub text_in : Section → List ℕ → Option (List ℕ)

@@ -1,12 +1,8 @@
 -- The definitions of documents, which are sections of texts under names.
 use Rattle.std.specs.Prelude.{ℕ, ◌≡◌, ◌<◌, Some, List, [], Option, String, All, fold, length, option_and_then, option_map, string_bytes, unwrap_or}
-use Rattle.std.specs.Cmp.{IsEquivalence, on_equiv}
-use Rattle.std.specs.Cmp.Lexicographic.{nat_list_eq_equiv}
-use Rattle.std.specs.Option.{option_map_or}
-use Rattle.std.specs.Str.{str_eq_ignore_ascii_case, str_to_ascii_lowercase}
-use Rattle.std.specs.declared.alloc.Global.{Global}
-use Rattle.vecmap.specs.Contents.{Contents, HasRoom}
-use Rattle.vecmap.specs.Pairs.{HasDistinctKeys, lookup, map_values, put, puts}
+use Rattle.std.specs.{Cmp.{IsEquivalence, on_equiv}, Cmp.Lexicographic.nat_list_eq_equiv, Option.option_map_or}
+use Rattle.std.specs.{Str.{str_eq_ignore_ascii_case, str_to_ascii_lowercase}, declared.alloc.Global.Global}
+use Rattle.vecmap.specs.{Contents.{Contents, HasRoom}, Pairs.{HasDistinctKeys, lookup, map_values, put, puts}}
 
 -- The `==` of names is an equivalence.
 pub ignoring_case_equiv : IsEquivalence str_eq_ignore_ascii_case

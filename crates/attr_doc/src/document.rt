@@ -1,7 +1,6 @@
 //! The type of documents.
 ghost use Rattle.attr_doc.specs.Documents.{AreSame, IsDocument, merge_of, text_of, with_text};
-ghost use Rattle.std.specs.Map.{keys_of};
-ghost use Rattle.std.specs.Map.Iter.{deref};
+ghost use Rattle.std.specs.{Map.keys_of, Map.Iter.deref};
 ghost use Rattle.std.specs.Prelude.{◌≡◌, ◌<◌, ◌↔◌, IfErr, IfOk, IsOk, IsSome, IsTrue, OnErr, OnOk, [], length, option_copied, option_map, string_bytes};
 ghost use Rattle.vecmap.specs.Iterators.{ShowsAll};
 

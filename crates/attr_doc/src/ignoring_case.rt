@@ -1,6 +1,5 @@
 //! Texts that are compared without the case of ASCII letters, eight bytes at once.
-ghost use Rattle.std.specs.Prelude.{◌≡◌, ◌+◌, ◌<◌, ◌≤◌, ◌&&◌, drop, length};
-ghost use Rattle.std.specs.Str.{str_eq_ignore_ascii_case};
+ghost use Rattle.std.specs.{Prelude.{◌≡◌, ◌+◌, ◌<◌, ◌≤◌, ◌&&◌, drop, length}, Str.str_eq_ignore_ascii_case};
 
 // Returns `true` if two texts are equal, with `A` to `Z` read as `a` to `z`.
 pub(crate) fn are_equal(a: &[u8], b: &[u8]) -> bool

@@ -2,10 +2,8 @@
 //! everything. `merge` calls it, because the contract of a map need not say at each step that its sections are a
 //! document.
 ghost use Rattle.attr_doc.specs.Documents.{HasRoomAt, IsRoomFor, merge_of, sections_of, with_section};
-ghost use Rattle.std.specs.Prelude.{All, ◌≡◌, ◌+◌, ◌<◌, ◌≤◌, ℕ, List, OnErr, OnOk, false, length};
-ghost use Rattle.std.specs.Str.{str_eq_ignore_ascii_case};
-ghost use Rattle.vecmap.specs.Contents.{HasRoom};
-ghost use Rattle.vecmap.specs.Pairs.{HasDistinctKeys, lookup};
+ghost use Rattle.std.specs.{Prelude.{All, ◌≡◌, ◌+◌, ◌<◌, ◌≤◌, ℕ, List, OnErr, OnOk, false, length}, Str.str_eq_ignore_ascii_case};
+ghost use Rattle.vecmap.specs.{Contents.HasRoom, Pairs.{HasDistinctKeys, lookup}};
 
 use crate::Name;
 use std::alloc::AllocError;

@@ -1,8 +1,6 @@
 //! Names that ignore the case of ASCII letters.
 ghost use Rattle.attr_doc.specs.Documents.{ignoring_case_equiv};
-ghost use Rattle.std.specs.Cmp.{partial_equiv_from_equiv};
-ghost use Rattle.std.specs.Prelude.{◌≡◌, string_bytes};
-ghost use Rattle.std.specs.Str.{str_eq_ignore_ascii_case};
+ghost use Rattle.std.specs.{Cmp.partial_equiv_from_equiv, Prelude.{◌≡◌, string_bytes}, Str.str_eq_ignore_ascii_case};
 
 #[cfg(test)]
 mod tests;

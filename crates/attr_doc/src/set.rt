@@ -1,8 +1,7 @@
 //! The work of `Document::set` on the map of sections. `set` calls it, because the contract of a map need not say at
 //! each step that its sections are a document.
 ghost use Rattle.attr_doc.specs.Documents.{sections_of, text_of, with_text};
-ghost use Rattle.std.specs.Prelude.{◌≡◌, IfErr, IfOk, IsOk, IsSome, OnErr, OnOk, option_map, string_bytes};
-ghost use Rattle.std.specs.Str.{str_eq_ignore_ascii_case};
+ghost use Rattle.std.specs.{Prelude.{◌≡◌, IfErr, IfOk, IsOk, IsSome, OnErr, OnOk, option_map, string_bytes}, Str.str_eq_ignore_ascii_case};
 ghost use Rattle.vecmap.specs.Pairs.{index_of, lookup, put};
 
 use crate::Name;

@@ -3,9 +3,8 @@
 use Rattle.std.specs.Prelude.{◌≡◌, ◌<◌, ◌≤◌, ℕ, Bool, List, [], ◌∷◌, None, Option, Some, false, length, nat_eq, refl, true, ⊤}
 use Rattle.std.specs.declared.clone.Clone as clone
 use Rattle.vecmap.specs.MapRun.{CapacityStep, Effect, ListStep, PutsInRoom, RepliesPair, RepliesPairs, RepliesValue, Run, Step}
-use Rattle.vecmap.specs.declared.map_run.command.MapCommand.{MapCommand}
+use Rattle.vecmap.specs.{declared.map_run.command.MapCommand.MapCommand, declared.map_run.reply.MapReply.MapReply}
 use Rattle.vecmap.specs.declared.map_run.command.MapCommand.TheVariants.{ContainsKey, Equals, First, Get, GetIndex, IndexOf, Last, Len, ToVec, Append, Clear, Insert, InsertAt, InsertFull, InsertKey, OrInsert, Pop, Remove, RemoveEntry, RemoveIndex, Reverse, SplitOff, SwapIndices, SwapRemove, SwapRemoveEntry, SwapRemoveIndex, Truncate}
-use Rattle.vecmap.specs.declared.map_run.reply.MapReply.{MapReply}
 use Rattle.vecmap.specs.declared.map_run.reply.MapReply.TheVariants.{Done, Full, Kept, Moved, NoMemory, Number, OutOfRange, Pair, Pairs, Place, Rest, Truth, Value}
 use Rattle.vecmap_base.specs.Clones.{ArePairClones}
 use Rattle.vecmap_map.specs.Contents.{Contents, KeepsRoomAt}

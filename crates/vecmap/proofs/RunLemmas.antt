@@ -2,11 +2,9 @@
 use Rattle.std.proofs.Common.{Bool, List, [], ◌∷◌, ◌++◌, refl}
 use Rattle.std.specs.declared.clone.Clone as clone
 use Rattle.vecmap.specs.MapRun as maps
-use Rattle.vecmap.specs.declared.map_run.command.MapCommand.{MapCommand}
-use Rattle.vecmap.specs.declared.map_run.reply.MapReply.{MapReply}
+use Rattle.vecmap.specs.{declared.map_run.command.MapCommand.MapCommand, declared.map_run.reply.MapReply.MapReply}
 use Rattle.vecmap.specs.SetRun as sets
-use Rattle.vecmap.specs.declared.set_run.command.SetCommand.{SetCommand}
-use Rattle.vecmap.specs.declared.set_run.reply.SetReply.{SetReply}
+use Rattle.vecmap.specs.{declared.set_run.command.SetCommand.SetCommand, declared.set_run.reply.SetReply.SetReply}
 use Rattle.vecmap_map.specs.Contents.{Contents}
 use Rattle.vecmap_set.specs.Contents as set
 

@@ -3,9 +3,8 @@ use Rattle.std.specs.Prelude.{◌≡◌, ◌<◌, ◌≤◌, ◌↔◌, ℕ, Boo
 use Rattle.std.specs.List.{IsDistinct}
 use Rattle.std.specs.declared.clone.Clone as clone
 use Rattle.vecmap.specs.SetRun.{AddsInRoom, CapacityStep, Effect, ListStep, MakesSet, RepliesItem, RepliesItems, Run, Step}
-use Rattle.vecmap.specs.declared.set_run.command.SetCommand.{SetCommand}
+use Rattle.vecmap.specs.{declared.set_run.command.SetCommand.SetCommand, declared.set_run.reply.SetReply.SetReply}
 use Rattle.vecmap.specs.declared.set_run.command.SetCommand.TheVariants.{Contains, Equals, Exclusive, First, Get, GetIndex, IndexOf, Intersect, IsDisjoint, IsSubset, IsSuperset, Last, Len, Subtract, ToVec, Unite, Append, Clear, Insert, Pop, Remove, RemoveIndex, Replace, Reverse, SplitOff, SwapIndices, SwapRemove, SwapRemoveIndex, SwapTake, Take, Truncate}
-use Rattle.vecmap.specs.declared.set_run.reply.SetReply.{SetReply}
 use Rattle.vecmap.specs.declared.set_run.reply.SetReply.TheVariants.{Done, Item, Items, Made, NoMemory, Number, OutOfRange, Place, Truth}
 use Rattle.vecmap_base.specs.Clones.{AreClones}
 use Rattle.vecmap_set.specs.Contents.{Contents, KeepsRoom}

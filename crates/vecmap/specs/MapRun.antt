@@ -3,13 +3,10 @@
 use Rattle.std.specs.Prelude.{◌≡◌, ◌-◌, ◌<◌, ◌≤◌, ◌++◌, None, Bool, IsSomeAnd, List, Option, [], ◌∷◌, drop, is_some, length, not, remove, reverse, slice_get, swap, take, ⊤}
 use Rattle.std.specs.Option.{option_map_or}
 use Rattle.std.specs.declared.clone.Clone as clone
-use Rattle.vecmap.specs.declared.map_run.command.MapCommand.{MapCommand}
+use Rattle.vecmap.specs.{declared.map_run.command.MapCommand.MapCommand, declared.map_run.reply.MapReply.MapReply}
 use Rattle.vecmap.specs.declared.map_run.command.MapCommand.TheVariants.{ContainsKey, Equals, First, Get, GetIndex, IndexOf, Last, Len, ToVec, Append, Clear, Insert, InsertAt, InsertFull, InsertKey, OrInsert, Pop, Remove, RemoveEntry, RemoveIndex, Reverse, SplitOff, SwapIndices, SwapRemove, SwapRemoveEntry, SwapRemoveIndex, Truncate}
-use Rattle.vecmap.specs.declared.map_run.reply.MapReply.{MapReply}
 use Rattle.vecmap.specs.declared.map_run.reply.MapReply.TheVariants.{Done, Full, Kept, Moved, NoMemory, Number, OutOfRange, Pair, Pairs, Place, Rest, Truth, Value}
-use Rattle.vecmap_base.specs.Clones.{ArePairClones, IsCloneOf, IsPairClone}
-use Rattle.vecmap_base.specs.Equality.{has_same_counts}
-use Rattle.vecmap_base.specs.Items.{swap_without}
+use Rattle.vecmap_base.specs.{Clones.{ArePairClones, IsCloneOf, IsPairClone}, Equality.has_same_counts, Items.swap_without}
 use Rattle.vecmap_base.specs.Pairs.{index_of, index_or_length, lookup, lookup_indexed, lookup_pair, put, put_at, put_key, puts, swap_without_key, without_key}
 use Rattle.vecmap_map.specs.Contents.{Contents, HasRoom, IsFull, KeepsRoom}
 

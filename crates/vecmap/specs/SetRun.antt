@@ -1,18 +1,14 @@
 -- What the commands of `run_set` do to a set, in order. `proofs/SetRunExamples.antt` has an example of each line of `ListStep`
 -- and of `CapacityStep`.
 use Rattle.std.specs.Prelude.{◌≡◌, ◌-◌, ◌<◌, ◌≤◌, ◌↔◌, Bool, Err, IsSomeAnd, IsTrue, List, Ok, Option, Result, [], ◌∷◌, drop, false, length, not, remove, reverse, slice_get, swap, take, ⊤}
-use Rattle.std.specs.List.{IsDistinct}
-use Rattle.std.specs.Set.{is_member}
+use Rattle.std.specs.{List.IsDistinct, Set.is_member}
 use Rattle.std.specs.declared.clone.Clone as clone
-use Rattle.vecmap.specs.declared.set_run.command.SetCommand.{SetCommand}
+use Rattle.vecmap.specs.{declared.set_run.command.SetCommand.SetCommand, declared.set_run.reply.SetReply.SetReply}
 use Rattle.vecmap.specs.declared.set_run.command.SetCommand.TheVariants.{Contains, Equals, Exclusive, First, Get, GetIndex, IndexOf, Intersect, IsDisjoint, IsSubset, IsSuperset, Last, Len, Subtract, ToVec, Unite, Append, Clear, Insert, Pop, Remove, RemoveIndex, Replace, Reverse, SplitOff, SwapIndices, SwapRemove, SwapRemoveIndex, SwapTake, Take, Truncate}
-use Rattle.vecmap.specs.declared.set_run.reply.SetReply.{SetReply}
 use Rattle.vecmap.specs.declared.set_run.reply.SetReply.TheVariants.{Done, Item, Items, Made, NoMemory, Number, OutOfRange, Place, Truth}
-use Rattle.vecmap_base.specs.Clones.{AreClones, IsCloneOf}
-use Rattle.vecmap_base.specs.Equality.{has_same_items, is_within}
+use Rattle.vecmap_base.specs.{Clones.{AreClones, IsCloneOf}, Equality.{has_same_items, is_within}}
 use Rattle.vecmap_base.specs.Items.{add, put_item, adds, both, item_index, only, stored_item, swap_without, swap_without_item, without_item}
-use Rattle.vecmap_set.specs.Contents.{Contents, HasRoom, IsFull, KeepsRoom}
-use Rattle.vecmap_set.specs.Operators.{symmetric_difference_of, union_of}
+use Rattle.vecmap_set.specs.{Contents.{Contents, HasRoom, IsFull, KeepsRoom}, Operators.{symmetric_difference_of, union_of}}
 
 module _ {T : Type 0} where
   -- The reply is the set that was created, or `NoMemory`.

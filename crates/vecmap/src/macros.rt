@@ -1,7 +1,5 @@
 //! The macros `vecmap!` and `vecset!`, and the functions that they call.
-ghost use Rattle.std.specs.Prelude.{◌≡◌, IsTrue, OnErr, OnOk, true};
-ghost use Rattle.std.specs.List.{IsDistinct};
-ghost use Rattle.std.specs.Set.{is_member};
+ghost use Rattle.std.specs.{Prelude.{◌≡◌, IsTrue, OnErr, OnOk, true}, List.IsDistinct, Set.is_member};
 ghost use Rattle.vecmap_base.specs.Insertions.{AddsKey};
 ghost use Rattle.vecmap_map.specs.Contents.{KeepsRoom, Refuses};
 ghost use Rattle.vecmap_set.specs.Contents.{KeepsRoom as SetKeepsRoom, Refuses as SetRefuses};

@@ -1,7 +1,5 @@
 //! Runs of commands on a set.
-ghost use Rattle.std.specs.Prelude.{◌≡◌, IfOk, OnErr};
-ghost use Rattle.std.specs.List.{IsDistinct};
-ghost use Rattle.std.specs.Set.{ClonesAreEqual};
+ghost use Rattle.std.specs.{Prelude.{◌≡◌, IfOk, OnErr}, List.IsDistinct, Set.ClonesAreEqual};
 ghost use Rattle.vecmap.specs.SetRun.{Run};
 
 mod command;

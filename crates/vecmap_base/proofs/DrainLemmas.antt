@@ -1,12 +1,9 @@
 -- A list whose end a drain holds, in order or reversed.
 use Rattle.std.specs.Prelude.{◌≡◌, ℕ, zero, suc, ◌-◌, ◌<◌, ◌≤◌, Bool, true, false, List, [], ◌∷◌, ◌++◌, drop, length, not, reverse, refl, slice_range, take}
-use Rattle.std.specs.List.{remove_range}
-use Rattle.std.specs.List.Sorted.{IsPermutation}
-use Rattle.std.specs.Vec.Iter.{reverse_if}
+use Rattle.std.specs.{List.remove_range, List.Sorted.IsPermutation, Vec.Iter.reverse_if}
 use Rattle.std.proofs.Common.{sym, ap, ◌∙◌, append_assoc, arith, drop_at, length-append, length-drop, length-take, subst, take_at}
 use Rattle.std.proofs.lemmas.List.{append-nil, drop_all, length-reverse, length_push, reverse-append, reverse-reverse, take-append-le}
-use Rattle.std.proofs.lemmas.List.Edits.{split_between}
-use Rattle.std.proofs.lemmas.List.Folds.{drop_split}
+use Rattle.std.proofs.{lemmas.List.Edits.split_between, lemmas.List.Folds.drop_split}
 use Rattle.std.proofs.lemmas.List.Sorted.{IsPermutation-append_comm, IsPermutation-append_right, IsPermutation-reverse, IsPermutation-trans}
 use mathlib.Core.Bool.{beq}
 use lib.ListN.{length-drop, length-take}

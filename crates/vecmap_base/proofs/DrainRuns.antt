@@ -1,9 +1,6 @@
 -- What a drain returns, and what it leaves, over any sequence of calls of `next` and `next_back`.
-use Rattle.std.specs.Prelude.{List, [], ◌∷◌, length}
-use Rattle.std.specs.Iterator.Runs.{YieldsInOrder, YieldsInReverse}
-use Rattle.std.proofs.Common.{ap, subst}
-use Rattle.std.proofs.iter.runs.Sources.{as_is, as_is_back, from_back, from_front}
-use Rattle.std.proofs.lemmas.List.{length_push}
+use Rattle.std.specs.{Prelude.{List, [], ◌∷◌, length}, Iterator.Runs.{YieldsInOrder, YieldsInReverse}}
+use Rattle.std.proofs.{Common.{ap, subst}, iter.runs.Sources.{as_is, as_is_back, from_back, from_front}, lemmas.List.length_push}
 use Rattle.vecmap_base.specs.Drain.{DrainsFirst, DrainsLast, KeepsAlong}
 use Rattle.vecmap_base.proofs.DrainLemmas.{end_reversed, first_pulled, last_pulled, length_rest, none_left, part_at_end, parts_of_moved}
 

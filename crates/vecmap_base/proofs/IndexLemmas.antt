@@ -1,14 +1,10 @@
 -- The index of the first element of a list that passes a test.
 use Rattle.std.specs.Prelude.{◌≡◌, ℕ, zero, suc, ◌+◌, ◌<◌, Bool, true, false, ◌||◌, nat_lt, List, [], ◌∷◌, ◌++◌, Option, None, Some, IfSome, drop, is_some, length, map, position, remove, slice_get, take, refl}
-use Rattle.std.specs.List.{list_any, position_or_len}
-use Rattle.std.specs.Option.{option_and_then, option_map}
-use Rattle.std.proofs.lemmas.Option.{none-some, slice_get-get_or}
+use Rattle.std.specs.{List.{list_any, position_or_len}, Option.{option_and_then, option_map}}
+use Rattle.std.proofs.{lemmas.Option.{none-some, slice_get-get_or}, Math.Seq.get_or-append_seam, lemmas.List.Quantifiers.position-Some}
 use Rattle.std.proofs.Common.{cond, sym, ap, ◌∙◌, arith, get_or, take_at, true≢false, inl, inr}
-use Rattle.std.proofs.Math.Seq.{get_or-append_seam}
-use Rattle.std.proofs.lemmas.Bool.{cases_Bool, false_from_ne_true, lt-ltb, ltb-true}
-use Rattle.std.proofs.lemmas.List.{length-append, take-append-drop}
+use Rattle.std.proofs.{lemmas.Bool.{cases_Bool, false_from_ne_true, lt-ltb, ltb-true}, lemmas.List.{length-append, take-append-drop}}
 use Rattle.std.proofs.lemmas.List.Folds.{list_any_at, list_any_more}
-use Rattle.std.proofs.lemmas.List.Quantifiers.{position-Some}
 
 pub is_some-map : {X Y : Type 0} (f : X → Y) (o : Option X) → is_some (option_map f o) ≡ is_some o
 is_some-map f None = refl

@@ -1,20 +1,14 @@
 -- The records of insertions, from the list that is left.
 use Rattle.std.specs.{Cmp.IsEquivalence, Map.keys_of, Option.option_map_or}
 use Rattle.std.proofs.Common.{◌≡◌, ◌∙◌, ◌+◌, ◌-◌, ◌<◌, ◌≤◌, ◌++◌, ℕ, zero, suc, Bool, true, false, List, [], ◌∷◌, None, Option, Some, IsSome, ap, arith, if◌then◌else◌, insert, is_some, length, min, option_map, refl, remove, slice_get, sym, unwrap_or}
-use Rattle.std.proofs.lemmas.List.{length-append, length-map}
-use Rattle.std.proofs.lemmas.List.Edits.{length-insert, length-remove}
+use Rattle.std.proofs.{lemmas.List.{length-append, length-map}, lemmas.List.Edits.{length-insert, length-remove}}
 use Rattle.std.proofs.lemmas.Option.{none-some, slice_get_within}
 use Rattle.vecmap_base.specs.Insertions.{AddsKey, InsertsAt, PutsKey}
 use Rattle.vecmap_base.specs.Pairs.{index_by, index_of, index_or_length, lookup, put, put_at, put_key, with_pair}
-use Rattle.vecmap_base.proofs.IndexLemmas.{slice_get_last}
-use Rattle.vecmap_base.proofs.MoveLemmas.{inserted_found}
-use Rattle.vecmap_base.proofs.PairsLemmas.AtIndices.{match_at, same_indices, stays}
-use Rattle.vecmap_base.proofs.PairsLemmas.ByIndex.{index_by_none, is_some_lookup_by, put_key_by_index}
-use Rattle.vecmap_base.proofs.PairsLemmas.Indices.{is_some_index_of}
-use Rattle.vecmap_base.proofs.PairsLemmas.Keys.{keys_of_insert, keys_of_put}
-use Rattle.vecmap_base.proofs.PairsLemmas.Lookups.{updates_of_put}
-use Rattle.vecmap_base.proofs.PairsLemmas.Puts.{put_absent, put_stored}
-use Rattle.vecmap_base.proofs.PairsLemmas.Updates.{updates_put_at, updates_put_key}
+use Rattle.vecmap_base.proofs.{IndexLemmas.slice_get_last, MoveLemmas.inserted_found, PairsLemmas.AtIndices.{match_at, same_indices, stays}}
+use Rattle.vecmap_base.proofs.{PairsLemmas.ByIndex.{index_by_none, is_some_lookup_by, put_key_by_index}, PairsLemmas.Lookups.updates_of_put}
+use Rattle.vecmap_base.proofs.{PairsLemmas.Indices.is_some_index_of, PairsLemmas.Keys.{keys_of_insert, keys_of_put}}
+use Rattle.vecmap_base.proofs.{PairsLemmas.Puts.{put_absent, put_stored}, PairsLemmas.Updates.{updates_put_at, updates_put_key}}
 
 -- The items before an item that was inserted stay.
 front_inserted : {X : Type 0} (l : List X) (i j : ℕ) (x : X) → i ≤ length l → j < i → slice_get (insert l i x) j ≡ slice_get l j

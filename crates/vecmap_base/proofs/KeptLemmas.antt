@@ -1,11 +1,9 @@
 -- A list from which a closure selects item by item. Its front has the items kept so far, and its rest is unchanged.
-use Rattle.std.proofs.lemmas.Grind.{common_steps}
+use Rattle.std.proofs.{lemmas.Grind.common_steps, Common.{ap, append_assoc, arith, get_or, set, subst, sym, ◌∙◌}}
 use Rattle.std.specs.Prelude.{◌≡◌, ℕ, ◌+◌, ◌<◌, ◌≤◌, Bool, true, false, List, [], ◌∷◌, ◌++◌, drop, if◌then◌else◌, length, map, refl, take}
 use Rattle.std.specs.List.{FoldsTo, SwappedAt}
-use Rattle.std.proofs.Common.{ap, append_assoc, arith, get_or, set, subst, sym, ◌∙◌}
 use Rattle.std.proofs.lemmas.List.{append-nil, drop-set-lt, drop_all, drop_more, get_or-set_same, length-set, take-append-drop, take-set-le, take_more, take_more_set}
-use Rattle.vecmap_base.specs.Asked.{CallableOnEach, SomeCall}
-use Rattle.vecmap_base.specs.Kept.{Kept, KeptSoFar, WritesItems}
+use Rattle.vecmap_base.specs.{Asked.{CallableOnEach, SomeCall}, Kept.{Kept, KeptSoFar, WritesItems}}
 use Rattle.vecmap_base.proofs.DuplicatesLemmas.Gather.{front_swapped, rest_more}
 
 module _ {X : Type 0} where

@@ -1,20 +1,13 @@
 -- Items without a mark, and two lists whose items are matched one to one.
-use Rattle.std.proofs.lemmas.Grind.{common_steps}
+use Rattle.std.proofs.{lemmas.Grind.common_steps, Common.{drop, get_or, replicate, set, sym, ap, ◌∙◌, arith, true≢false, inl, inr, ⊎_elim}}
 use Rattle.std.specs.Prelude.{◌≡◌, ℕ, zero, suc, ◌+◌, ◌-◌, ◌<◌, ◌≤◌, Bool, true, false, ◌&&◌, ◌||◌, not, List, [], ◌∷◌, None, Some, length, refl}
-use Rattle.std.specs.Cmp.{IsEquivalence, IsPartialEquivalence}
-use Rattle.std.specs.List.{list_any, sum_by}
-use Rattle.std.proofs.Common.{drop, get_or, replicate, set, sym, ap, ◌∙◌, arith, true≢false, inl, inr, ⊎_elim}
-use Rattle.std.proofs.lemmas.Bool.{and_from, cases_Bool, cases_lt, false_from_ne_true}
-use Rattle.std.proofs.lemmas.Grind.{get_or_after_one}
-use Rattle.std.proofs.lemmas.List.{at_drop_more, drop-replicate, drop_all, length-drop, nil_from_length}
-use Rattle.std.proofs.lemmas.List.Folds.{list_any_at}
-use Rattle.std.proofs.lemmas.List.Quantifiers.{position-Some}
-use Rattle.std.proofs.lemmas.List.Sums.{sum_by-cons, sum_by-drop_more}
-use Rattle.vecmap_base.specs.Equality.{free, same_pair}
-use Rattle.vecmap_base.specs.Pairs.{index_of}
-use Rattle.vecmap_base.proofs.EqualityLemmas.Counts.{agree_everywhere, agreed, all_agree, many, many_absent}
+use Rattle.std.specs.{Cmp.{IsEquivalence, IsPartialEquivalence}, List.{list_any, sum_by}}
+use Rattle.std.proofs.{lemmas.Bool.{and_from, cases_Bool, cases_lt, false_from_ne_true}, lemmas.Grind.get_or_after_one}
+use Rattle.std.proofs.{lemmas.List.{at_drop_more, drop-replicate, drop_all, length-drop, nil_from_length}, lemmas.List.Folds.list_any_at}
+use Rattle.std.proofs.{lemmas.List.Quantifiers.position-Some, lemmas.List.Sums.{sum_by-cons, sum_by-drop_more}}
+use Rattle.vecmap_base.specs.{Equality.{free, same_pair}, Pairs.index_of}
+use Rattle.vecmap_base.proofs.{EqualityLemmas.Counts.{agree_everywhere, agreed, all_agree, many, many_absent}, IndexLemmas.fails_everywhere}
 use Rattle.vecmap_base.proofs.EqualityLemmas.Partial.{agree, all_reflexive, at_self, disagree, disagree_at, from_lumps, lumped, lumped_if_same, lumped_laws, self_left}
-use Rattle.vecmap_base.proofs.IndexLemmas.{fails_everywhere}
 use Rattle.vecmap_base.proofs.PairsLemmas.ByIndex.{index_by_is}
 
 module _ {X : Type 0} where

@@ -2,13 +2,10 @@
 -- the part by the one next to it does the same.
 use Rattle.std.specs.{List.Sorted.IsPermutation, Option.option_map_or}
 use Rattle.std.proofs.Common.{◌≡◌, ℕ, zero, suc, ◌+◌, ◌-◌, ◌<◌, ◌≤◌, List, [], ◌∷◌, ◌++◌, ap, arith, append_assoc, drop, drop_at, get_or, insert, length, length-take-le, nat_eq, false, refl, remove, reverse, set, slice_get, swap, Some, subst, sym, take, take_at, true≢false, ◌∙◌}
-use Rattle.std.proofs.lemmas.Bool.{eq-eqb}
+use Rattle.std.proofs.{lemmas.Bool.eq-eqb, lemmas.List.Edits.{length-remove, swap_is}, lemmas.Grind.get_or-set_at, Math.Seq.take-length}
 use Rattle.std.proofs.lemmas.List.{drop-set-lt, get_or-reverse, get_or-set_other, get_or-set_same, length-reverse, length-set, take-set-le, take_more}
-use Rattle.std.proofs.lemmas.List.Edits.{length-remove, swap_is}
 use Rattle.std.proofs.lemmas.List.Sorted.{IsPermutation-insert, IsPermutation-remove, IsPermutation-trans}
 use Rattle.std.proofs.lemmas.Option.{get_or_from_slice_get, slice_get-get_or}
-use Rattle.std.proofs.lemmas.Grind.{get_or-set_at}
-use Rattle.std.proofs.Math.Seq.{take-length}
 use Rattle.vecmap_base.specs.Items.{moved}
 
 -- A write at an index leaves the items at other indices.

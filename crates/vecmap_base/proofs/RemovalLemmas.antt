@@ -2,14 +2,11 @@
 use Rattle.std.specs.{Cmp.IsEquivalence, List.Sorted.IsPermutation, Map.IsKeyTest, Option.option_map, Option.option_map_or, Option.option_to_list}
 use Rattle.std.proofs.Common.{◌≡◌, ◌∙◌, ◌+◌, ◌-◌, ◌++◌, ℕ, Bool, List, ◌∷◌, None, Option, Some, IfSome, ap, cond, if◌then◌else◌, is_some, length, remove, slice_get, sym, subst, take}
 use Rattle.std.proofs.lemmas.Map.Keys.{IsDistinct-tail}
-use Rattle.vecmap_base.specs.Items.{swap_without}
-use Rattle.vecmap_base.specs.Pairs.{HasDistinctKeys, lookup_by, lookup_pair_by, swap_without_by, without_by}
+use Rattle.vecmap_base.specs.{Items.swap_without, Pairs.{HasDistinctKeys, lookup_by, lookup_pair_by, swap_without_by, without_by}}
 use Rattle.vecmap_base.specs.Removals.{FindsPair, ForgetsIndex, ForgetsKey, RemovesAt, RemovesBy, RemovesLast, SwapRemovesAt, SwapRemovesBy}
-use Rattle.vecmap_base.proofs.IndexLemmas.{list_any_position}
-use Rattle.vecmap_base.proofs.PairsLemmas.AtIndices.{shifts_indices, shifts_without}
+use Rattle.vecmap_base.proofs.{IndexLemmas.list_any_position, PairsLemmas.AtIndices.{shifts_indices, shifts_without}}
 use Rattle.vecmap_base.proofs.PairsLemmas.ByIndex.{index_by_is, is_some_lookup_by, is_some_lookup_pair_by, value_of_pair_by, without_by_index}
-use Rattle.vecmap_base.proofs.PairsLemmas.Distinct.{distinct_keys_rearranged, distinct_keys_remove}
-use Rattle.vecmap_base.proofs.PairsLemmas.Parts.{keeps_front_of}
+use Rattle.vecmap_base.proofs.{PairsLemmas.Distinct.{distinct_keys_rearranged, distinct_keys_remove}, PairsLemmas.Parts.keeps_front_of}
 use Rattle.vecmap_base.proofs.PairsLemmas.Updates.{key_passes, lookup_by_taken, updates_of_first}
 use Rattle.vecmap_base.proofs.TakenLemmas.{TakesFirst, first_by_shift, first_by_swap, last_read, last_taken, len_of_first, len_popped, one_less, taken_by_shift, taken_by_swap}
 

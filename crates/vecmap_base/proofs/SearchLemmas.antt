@@ -1,11 +1,8 @@
 -- What a binary search has found so far: about the item at its base, and about the items above the part that is left.
 use Rattle.std.proofs.Math.Nat.{pow-suc}
 use Rattle.std.proofs.Common.{◌≡◌, ℕ, zero, suc, ◌+◌, ◌*◌, ◌/◌, ◌^◌, ◌<◌, ◌≤◌, Bool, true, false, List, length, get_or, HoldsAt, if◌then◌else◌, ap, sym, ◌∙◌, arith, refl, subst, true≢false}
-use Rattle.std.specs.List.{AllWithin}
-use Rattle.std.specs.List.Sorted.{IsNonDecreasingBy, IsPartitionPoint, IsPartitionedBy}
-use Rattle.std.specs.Ordering.{is_le, ordering_index}
-use Rattle.std.specs.declared.cmp.Ordering.{Ordering}
-use Rattle.std.specs.declared.cmp.Ordering.TheVariants.{Less, Equal, Greater}
+use Rattle.std.specs.{List.AllWithin, List.Sorted.{IsNonDecreasingBy, IsPartitionPoint, IsPartitionedBy}, Ordering.{is_le, ordering_index}}
+use Rattle.std.specs.{declared.cmp.Ordering.Ordering, declared.cmp.Ordering.TheVariants.{Less, Equal, Greater}}
 use Rattle.vecmap_base.specs.Orders.{side}
 
 -- Nothing is below `Less`, or above `Greater`.

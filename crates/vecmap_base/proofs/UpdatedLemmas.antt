@@ -1,14 +1,8 @@
 -- What is left of a list of pairs if a closure is called for each pair, in order, and writes the value.
-use Rattle.std.specs.Fn.{Mut}
-use Rattle.std.specs.Borrow.{Bor, MutBor}
-use Rattle.std.specs.List.{All}
-use Rattle.std.specs.Map.{keys_of}
+use Rattle.std.specs.{Fn.Mut, Borrow.{Bor, MutBor}, List.All, Map.keys_of}
 use Rattle.std.specs.Prelude.{◌≡◌, List, [], ◌∷◌, ◌++◌, if◌then◌else◌, map, ⊤, Result, Ok, Err}
-use Rattle.std.proofs.Common.{arith, ap, subst, sym, ◌∙◌}
-use Rattle.std.proofs.lemmas.List.{map-append}
-use Rattle.std.proofs.lemmas.List.Elements.{All-head, All-tail}
-use Rattle.vecmap_base.specs.Asked.{CallableOnEach}
-use Rattle.vecmap_base.specs.Updated.{AlwaysComputes, Computes, Keeping, StoppedAt, Updated, WritesValueAt}
+use Rattle.std.proofs.{Common.{arith, ap, subst, sym, ◌∙◌}, lemmas.List.map-append, lemmas.List.Elements.{All-head, All-tail}}
+use Rattle.vecmap_base.specs.{Asked.CallableOnEach, Updated.{AlwaysComputes, Computes, Keeping, StoppedAt, Updated, WritesValueAt}}
 use Rattle.vecmap_base.proofs.KeptLemmas.{written_in_state, written_while}
 
 module _ {F X : Type 0} (R : F → X → X → F → Type 0) where

@@ -1,11 +1,9 @@
 -- One step of the loop that updates a list of pairs.
-use Rattle.std.specs.List.{FoldsTo}
-use Rattle.std.specs.Prelude.{◌≡◌, ℕ, ◌+◌, ◌<◌, ◌≤◌, List, [], ◌∷◌, ◌++◌, drop, if◌then◌else◌, length, refl, take, true}
+use Rattle.std.specs.{List.FoldsTo, Prelude.{◌≡◌, ℕ, ◌+◌, ◌<◌, ◌≤◌, List, [], ◌∷◌, ◌++◌, drop, if◌then◌else◌, length, refl, take, true}}
 use Rattle.std.proofs.Common.{ap, arith, get_or, set, subst, sym, ◌∙◌}
 use Rattle.std.proofs.lemmas.List.{drop-set-lt, drop_more, length-set, take-append-drop, take_all, take_more, take_more_set}
-use Rattle.vecmap_base.specs.Asked.{CallableOnEach, SomeCall}
+use Rattle.vecmap_base.specs.{Asked.{CallableOnEach, SomeCall}, Updated.{Keeping, Updated, UpdatedSoFar}}
 use Rattle.vecmap_base.proofs.DuplicatesLemmas.Gather.{rest_more}
-use Rattle.vecmap_base.specs.Updated.{Keeping, Updated, UpdatedSoFar}
 
 module _ {F X : Type 0} (R : F → X → X → F → Type 0) where
   -- One call more.

@@ -1,13 +1,9 @@
 -- Iterators that are seen as the list of what they have left: what a run of them gives.
-use Rattle.std.proofs.Common.{◌≡◌, List, [], ◌∷◌, Ok, ap, ◌∙◌, length, map, map-id, refl, sym}
-use Rattle.std.proofs.iter.runs.Sources.{as_is, as_is_back, from_back, from_front}
-use Rattle.std.proofs.lemmas.Iterator.Adapters.{fact_from_extend}
-use Rattle.std.proofs.lemmas.Iterator.Consumers.{YieldsList-from_rest}
+use Rattle.std.proofs.{Common.{◌≡◌, List, [], ◌∷◌, Ok, ap, ◌∙◌, length, map, map-id, refl, sym}, lemmas.Iterator.Adapters.fact_from_extend}
+use Rattle.std.proofs.{iter.runs.Sources.{as_is, as_is_back, from_back, from_front}, lemmas.Iterator.Consumers.YieldsList-from_rest}
 use Rattle.std.proofs.lemmas.List.{map_push}
-use Rattle.std.specs.{List.AllZip, Map.values_of}
+use Rattle.std.specs.{List.AllZip, Map.values_of, Iterator.Drains, Iterator.Runs.{EveryRun, ItemsMapTo, ItemsMapToReversed}}
 use Rattle.std.specs.Map.Iter.{GivesInOrder, GivesInReverse, ShowsInOrder, ShowsInReverse, ShowsValuesInOrder, ShowsValuesInReverse, TakesFirst, TakesLast}
-use Rattle.std.specs.Iterator.{Drains}
-use Rattle.std.specs.Iterator.Runs.{EveryRun, ItemsMapTo, ItemsMapToReversed}
 use Rattle.vecmap_base.specs.Iterators.{TakesFirstOf, TakesLastOf}
 
 -- Each run shows the list that was left.

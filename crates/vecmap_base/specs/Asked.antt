@@ -1,9 +1,6 @@
 -- Calls of a closure for each item of a list, in order: when the closure may be called, and what a call returns and
 -- leaves.
-use Rattle.std.specs.Prelude.{◌≡◌, Bool, List, ◌∷◌, ◌++◌}
-use Rattle.std.specs.List.{FoldsTo}
-use Rattle.std.specs.Borrow.{MutBor, Bor}
-use Rattle.std.specs.Fn.{Called, CalledAt, Mut, Takes}
+use Rattle.std.specs.{Prelude.{◌≡◌, Bool, List, ◌∷◌, ◌++◌}, List.FoldsTo, Borrow.{MutBor, Bor}, Fn.{Called, CalledAt, Mut, Takes}}
 use Rattle.std.specs.Map.Calls.{CalledAtPair, TakesPair}
 
 module _ {F X : Type 0} (R : F → X → Bool → X → F → Type 0) where

@@ -1,7 +1,6 @@
 -- Calls that insert the items of an iterator: where they stop, what holds of each item, and when there is spare
 -- capacity for all items.
-use Rattle.std.specs.Prelude.{◌≡◌, ℕ, ◌+◌, ◌/◌, List, Option, Some}
-use Rattle.std.specs.Iterator.{Count, Drains, YieldsThen, size}
+use Rattle.std.specs.{Prelude.{◌≡◌, ℕ, ◌+◌, ◌/◌, List, Option, Some}, Iterator.{Count, Drains, YieldsThen, size}}
 
 module _ {U T : Type 0} (becomes : U → T → Type 0) where
   -- Example: three items were taken, and at the third `R` holds of the first two and it.

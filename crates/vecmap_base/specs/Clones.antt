@@ -1,6 +1,5 @@
 -- What it means that a list, a pair or an option is a clone of another, and that a clone cannot fail.
-use Rattle.std.specs.Prelude.{◌≡◌, List, None, Option, Some, ⊤}
-use Rattle.std.specs.List.{AllZip}
+use Rattle.std.specs.{Prelude.{◌≡◌, List, None, Option, Some, ⊤}, List.AllZip}
 use Rattle.std.specs.declared.clone.Clone as clone
 
 -- Example: `IsPairClone copy copy (j, a) (j, a)`; `¬ (IsPairClone copy copy (Some j, a) (None, a))`.

@@ -1,6 +1,5 @@
 -- The number of comparisons that searches, additions and removals of duplicates make.
-use Rattle.std.specs.Prelude.{ℕ, ◌+◌, ◌-◌, ◌*◌, ◌/◌, Bool, List, [], ◌∷◌, length, position}
-use Rattle.std.specs.Option.{option_map_or}
+use Rattle.std.specs.{Prelude.{ℕ, ◌+◌, ◌-◌, ◌*◌, ◌/◌, Bool, List, [], ◌∷◌, length, position}, Option.option_map_or}
 use Rattle.vecmap_base.specs.Items.{add}
 
 -- Example: `cost 5 ≡ 10`.

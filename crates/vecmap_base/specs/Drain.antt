@@ -1,7 +1,6 @@
 -- What contracts say of drains, which remove a range from a collection. `rest` is the list of the items that a drain
 -- has still to return. `Keeps` says that a call changes nothing of what the collection holds once the drain is dropped.
-use Rattle.std.specs.Prelude.{◌≡◌, List, [], ◌∷◌, ◌++◌, MatchOption, Option}
-use Rattle.std.specs.Iterator.{Yields}
+use Rattle.std.specs.{Prelude.{◌≡◌, List, [], ◌∷◌, ◌++◌, MatchOption, Option}, Iterator.Yields}
 
 module _ {D A : Type 0} (rest : D → List A) (Keeps : D → D → Type 0) where
   -- If nothing was left, it returned `None` and changed nothing.

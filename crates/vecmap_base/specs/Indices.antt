@@ -1,7 +1,6 @@
 -- Which keys a list of pairs has after a change, and at which indices. `eq` is the `==` of keys, and a test is what a
 -- query does with a key.
-use Rattle.std.specs.Prelude.{◌≡◌, ◌-◌, ◌<◌, ℕ, Bool, List, Some, is_some, length, remove, slice_get, true}
-use Rattle.std.specs.Cmp.{IsEquivalence}
+use Rattle.std.specs.{Prelude.{◌≡◌, ◌-◌, ◌<◌, ℕ, Bool, List, Some, is_some, length, remove, slice_get, true}, Cmp.IsEquivalence}
 use Rattle.std.specs.Map.{IsKeyTest, keys_of, values_of}
 use Rattle.vecmap_base.specs.Pairs.{HasDistinctKeys, index_by, index_of, lookup, lookup_by, value_at}
 

@@ -2,8 +2,7 @@
 -- and a test is what a query does with a key.
 use Rattle.std.specs.Prelude.{◌≡◌, ◌++◌, ◌∷◌, ◌+◌, ◌-◌, ◌<◌, ℕ, Bool, List, [], IsSome, None, Some, if◌then◌else◌, insert, is_some, length, min, slice_get, true, unwrap_or}
 use Rattle.std.specs.Map.{keys_of}
-use Rattle.vecmap_base.specs.Lookups.{UpdatesBy}
-use Rattle.vecmap_base.specs.Pairs.{HasDistinctKeys, index_by, index_of, index_or_length, lookup, put, put_at, put_key}
+use Rattle.vecmap_base.specs.{Lookups.UpdatesBy, Pairs.{HasDistinctKeys, index_by, index_of, index_or_length, lookup, put, put_at, put_key}}
 
 -- Example: from `[(1,a)]` to `[(1,a), (2,b)]` for the pair `(2,b)`.
 -- An insertion of the pair `(k, v)` into the list `l` leaves each key at its index, and appends a new key.

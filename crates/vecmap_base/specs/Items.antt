@@ -1,10 +1,7 @@
 -- Lists of elements, as an ordered set sees them. `eq` is the `==` of elements. In the examples, `1x` and `1y` are
 -- elements that `eq` calls equal, and are not the same.
 use Rattle.std.specs.Prelude.{◌≡◌, ℕ, Bool, IsTrue, List, [], ◌∷◌, ◌++◌, Option, if◌then◌else◌, filter, fold, insert, length, not, position, remove, slice_get, slice_set}
-use Rattle.std.specs.Cmp.{IsEquivalence}
-use Rattle.std.specs.List.{list_any, swap_remove}
-use Rattle.std.specs.List.Sorted.{IsPermutation}
-use Rattle.std.specs.Option.{option_and_then, option_map_or}
+use Rattle.std.specs.{Cmp.IsEquivalence, List.{list_any, swap_remove}, List.Sorted.IsPermutation, Option.{option_and_then, option_map_or}}
 use Rattle.std.specs.Set.{is_member}
 use Rattle.vecmap_base.specs.Equality.{has_same_items}
 

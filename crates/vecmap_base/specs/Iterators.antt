@@ -1,16 +1,10 @@
 -- What iterators have left and yield.
-use Rattle.std.specs.Prelude.{◌≡◌, ℕ, ◌<◌, ◌^◌, IfSome, List, Option, Some, length, map}
-use Rattle.std.specs.Borrow.{GName, MutBor}
-use Rattle.std.specs.Iterator.{UpTo, at_most}
-use Rattle.std.specs.Iterator.SizeHint.{IsWithinCount}
-use Rattle.std.specs.Iterator.Runs.{EveryRun, ItemsMapTo, ItemsMapToReversed}
+use Rattle.std.specs.{Prelude.{◌≡◌, ℕ, ◌<◌, ◌^◌, IfSome, List, Option, Some, length, map}, Borrow.{GName, MutBor}, Iterator.{UpTo, at_most}}
+use Rattle.std.specs.{Iterator.SizeHint.IsWithinCount, Iterator.Runs.{EveryRun, ItemsMapTo, ItemsMapToReversed}}
 use Rattle.std.specs.Map.Iter.{GivesInOrder, GivesInReverse, ShowsInOrder, ShowsInReverse, TakesFirst, TakesLast}
 use Rattle.std.specs.Slice.Iter as slice
-use Rattle.vecmap_base.specs.declared.iter.by_mut.IterMutOf.{IterMutOf}
-use Rattle.vecmap_base.specs.declared.projection.Key.{Key}
-use Rattle.vecmap_base.specs.declared.projection.Pair.{Pair}
-use Rattle.vecmap_base.specs.declared.projection.PairMut.{PairMut}
-use Rattle.vecmap_base.specs.declared.projection.Value.{Value}
+use Rattle.vecmap_base.specs.{declared.iter.by_mut.IterMutOf.IterMutOf, declared.projection.Key.Key, declared.projection.Pair.Pair}
+use Rattle.vecmap_base.specs.{declared.projection.PairMut.PairMut, declared.projection.Value.Value}
 
 -- Example: of a `&mut` to 5: 5.
 -- What a `&mut T` points to.

@@ -1,8 +1,7 @@
 -- What is left of a list if a closure is called for each item, in order, and decides which items stay.
 use Rattle.std.specs.Prelude.{◌≡◌, ℕ, ◌≤◌, Bool, true, List, [], ◌∷◌, ◌++◌, None, Option, Some, drop, filter, if◌then◌else◌, length, not, take}
 use Rattle.std.specs.List.{FoldsTo}
-use Rattle.vecmap_base.specs.Asked.{SomeCall}
-use Rattle.vecmap_base.specs.Pairs.{lookup_by}
+use Rattle.vecmap_base.specs.{Asked.SomeCall, Pairs.lookup_by}
 
 -- An item stays if the call at it returns `true`, as the call leaves it.
 -- Example: every second of `[1,2,3,4]`: `[2,4]`.

@@ -1,13 +1,9 @@
 -- What lookups find after a change of a list of pairs. `eq` is the `==` of keys.
 use Rattle.std.specs.Prelude.{◌≡◌, ◌+◌, ◌<◌, ◌≤◌, ℕ, Bool, IsTrue, List, None, Option, Some, cond, false, is_some, length, min, position, slice_get, slice_set, take, true}
-use Rattle.std.specs.List.{list_any}
-use Rattle.std.specs.List.Sorted.{IsPermutation}
-use Rattle.std.specs.Option.{option_or}
+use Rattle.std.specs.{List.list_any, List.Sorted.IsPermutation, Option.option_or, Cmp.IsEquivalence}
 use Rattle.std.specs.Set.{is_member, KeepsOthers as KeepsOtherItems}
-use Rattle.std.specs.Cmp.{IsEquivalence}
 use Rattle.std.specs.Map.{IsKeyTest, KeepsOthers, keys_of, values_of}
-use Rattle.vecmap_base.specs.Equality.{has_same_counts}
-use Rattle.vecmap_base.specs.Pairs.{HasDistinctKeys, index_by, lookup, lookup_by}
+use Rattle.vecmap_base.specs.{Equality.has_same_counts, Pairs.{HasDistinctKeys, index_by, lookup, lookup_by}}
 
 module _ {K V : Type 0} (eq : K → K → Bool) where
   -- Example: from `[(1,a)]` to `[(1,a), (2,b)]` for the key 2: b.

@@ -1,13 +1,7 @@
 -- Closures over pairs or items: where they may be called, what they return, and the order in which they put a list. The
 -- closures are `Fn`, so one statement holds for all calls.
-use Rattle.std.specs.Prelude.{◌≡◌, ◌<◌, ℕ, Bool, Contains, List, length, cond}
-use Rattle.std.specs.Borrow.{Bor}
-use Rattle.std.specs.Cmp.{IsStrictWeakOrder}
-use Rattle.std.specs.Fn.{Shared}
-use Rattle.std.specs.List.{HoldsAt}
-use Rattle.std.specs.List.Sorted.{IsSortedBy, IsSortedByKey, IsStableBy, IsStableByKey}
-use Rattle.std.specs.Ordering.{is_lt}
-use Rattle.std.specs.declared.cmp.Ordering.{Ordering}
+use Rattle.std.specs.{Prelude.{◌≡◌, ◌<◌, ℕ, Bool, Contains, List, length, cond}, Borrow.Bor, Cmp.IsStrictWeakOrder, Fn.Shared, List.HoldsAt}
+use Rattle.std.specs.{List.Sorted.{IsSortedBy, IsSortedByKey, IsStableBy, IsStableByKey}, Ordering.is_lt, declared.cmp.Ordering.Ordering}
 use Rattle.std.specs.declared.cmp.Ordering.TheVariants.{Greater, Less}
 
 -- Example: a closure that indexes a table of 3 items may be called at 2, and not at 3.

@@ -3,10 +3,8 @@
 -- `swap_without_by` go by the index of a key. In the examples, `1x` and `1y` are keys that `eq` calls equal, and are not
 -- the same.
 use Rattle.std.specs.Prelude.{ℕ, suc, ◌-◌, Bool, List, [], ◌∷◌, None, Option, Some, String, bytes_eq, if◌then◌else◌, fold, insert, length, map, min, remove, slice_get, slice_set, string_bytes, unwrap_or}
-use Rattle.std.specs.List.{IsDistinct}
+use Rattle.std.specs.{List.IsDistinct, Map.keys_of, Option.{option_and_then, option_map, option_map_or}}
 use Rattle.std.specs.Map as entries
-use Rattle.std.specs.Map.{keys_of}
-use Rattle.std.specs.Option.{option_and_then, option_map, option_map_or}
 use Rattle.vecmap_base.specs.Items.{swap_without}
 
 module _ {K V : Type 0} where

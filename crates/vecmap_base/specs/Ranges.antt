@@ -1,7 +1,5 @@
 -- The indices of a list that a range names. The ends of the range are counted without limit.
-use Rattle.std.specs.Prelude.{ℕ, ◌≤◌, List, length, slice_range}
-use Rattle.std.specs.Bound.{end_index, start_index}
-use Rattle.std.specs.List.{remove_range}
+use Rattle.std.specs.{Prelude.{ℕ, ◌≤◌, List, length, slice_range}, Bound.{end_index, start_index}, List.remove_range}
 use Rattle.std.specs.declared.ops.Bound.{Bound}
 
 -- Example: `IsRangeWithin 1 4 5`; `¬ (IsRangeWithin 4 1 5)`.

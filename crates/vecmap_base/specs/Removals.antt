@@ -1,11 +1,8 @@
 -- What the removal of one pair leaves of a list of pairs, one record for each kind of removal. `eq` is the `==` of keys, and
 -- a test is what a query does with a key.
 use Rattle.std.specs.Prelude.{◌≡◌, ◌+◌, ◌-◌, ℕ, Bool, IfSome, List, None, Option, Some, cond, if◌then◌else◌, is_some, length, option_map, remove, slice_get}
-use Rattle.std.specs.Cmp.{IsEquivalence}
-use Rattle.std.specs.Map.{IsKeyTest}
-use Rattle.vecmap_base.specs.Indices.{ShiftsIndices}
-use Rattle.vecmap_base.specs.Items.{swap_without}
-use Rattle.vecmap_base.specs.Lookups.{KeepsFront, UpdatesBy}
+use Rattle.std.specs.{Cmp.IsEquivalence, Map.IsKeyTest}
+use Rattle.vecmap_base.specs.{Indices.ShiftsIndices, Items.swap_without, Lookups.{KeepsFront, UpdatesBy}}
 use Rattle.vecmap_base.specs.Pairs.{HasDistinctKeys, index_by, lookup_by, lookup_pair_by, swap_without_by, without_by}
 
 module _ {K V : Type 0} where

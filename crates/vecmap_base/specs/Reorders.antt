@@ -1,12 +1,8 @@
 -- What a reversal, a swap and a move of pairs leave of a list of pairs. `eq` is the `==` of keys, and a test is what a query
 -- does with a key.
-use Rattle.std.specs.Prelude.{◌≡◌, ◌-◌, ◌<◌, ℕ, Bool, List, Some, false, length, nat_eq, reverse, slice_get, swap}
-use Rattle.std.specs.Cmp.{IsEquivalence}
+use Rattle.std.specs.{Prelude.{◌≡◌, ◌-◌, ◌<◌, ℕ, Bool, List, Some, false, length, nat_eq, reverse, slice_get, swap}, Cmp.IsEquivalence}
 use Rattle.std.specs.Map.{IsKeyTest, keys_of}
-use Rattle.vecmap_base.specs.Indices.{MovesIndex}
-use Rattle.vecmap_base.specs.Items.{moved}
-use Rattle.vecmap_base.specs.Lookups.{IsReordered}
-use Rattle.vecmap_base.specs.Pairs.{HasDistinctKeys, index_by}
+use Rattle.vecmap_base.specs.{Indices.MovesIndex, Items.moved, Lookups.IsReordered, Pairs.{HasDistinctKeys, index_by}}
 
 module _ {K V : Type 0} where
   -- Example: from `[(1,a), (2,b)]` to `[(2,b), (1,a)]`.

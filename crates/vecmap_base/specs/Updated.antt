@@ -1,9 +1,7 @@
 -- What a list of pairs is after a closure was called for each pair, in order, and wrote the value.
-use Rattle.std.specs.Prelude.{◌≡◌, ℕ, Bool, true, List, ◌∷◌, ◌++◌, drop, length, take, Result, Ok, Err}
-use Rattle.std.specs.Borrow.{Bor, MutBor}
+use Rattle.std.specs.{Prelude.{◌≡◌, ℕ, Bool, true, List, ◌∷◌, ◌++◌, drop, length, take, Result, Ok, Err}, Borrow.{Bor, MutBor}}
 use Rattle.std.specs.Fn.{Called, Mut, Takes}
-use Rattle.vecmap_base.specs.Asked.{CallableOnEach}
-use Rattle.vecmap_base.specs.Kept.{Kept}
+use Rattle.vecmap_base.specs.{Asked.CallableOnEach, Kept.Kept}
 
 module _ {F X : Type 0} (R : F → X → X → F → Type 0) where
   -- Calls that return nothing, seen as the calls of a retaining closure that keeps each item.

@@ -1,6 +1,5 @@
 //! Tests whether a list has duplicates.
-ghost use Rattle.std.specs.Prelude.{◌↔◌, IsTrue};
-ghost use Rattle.std.specs.List.{IsDistinct};
+ghost use Rattle.std.specs.{Prelude.{◌↔◌, IsTrue}, List.IsDistinct};
 ghost use Rattle.vecmap_base.specs.Pairs.{HasDistinctKeys};
 
 use crate::lookup::{find, find_item};

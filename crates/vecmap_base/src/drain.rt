@@ -1,6 +1,5 @@
 //! The moves of items in a vector that drains are built from.
-ghost use Rattle.std.specs.Prelude.{◌≡◌, ◌++◌, ◌-◌, ◌≤◌, drop, length, reverse, slice_range, take, vec_capacity};
-ghost use Rattle.std.specs.List.{remove_range};
+ghost use Rattle.std.specs.{Prelude.{◌≡◌, ◌++◌, ◌-◌, ◌≤◌, drop, length, reverse, slice_range, take, vec_capacity}, List.remove_range};
 ghost use Rattle.vecmap_base.specs.Ranges.{IsRangeWithin};
 
 use std::mem::size_of_val;

@@ -2,13 +2,9 @@
 //!
 //! Each item is compared with the kept items before it, in order, up to the first equal one. So n items need at most
 //! n(n-1)/2 comparisons, and exactly as many if all are distinct (a law of `vecmap_laws`).
-ghost use Rattle.std.specs.Prelude.{◌≡◌, ◌+◌, ◌<◌, ◌≤◌, [], IfSome, length, swap, take, vec_capacity};
-ghost use Rattle.std.specs.List.Sorted.{IsPermutation};
-ghost use Rattle.std.specs.Map.{keys_of, values_of};
-ghost use Rattle.std.specs.Set.{is_member};
-ghost use Rattle.vecmap_base.specs.Items.{adds};
-ghost use Rattle.vecmap_base.specs.Pairs.{index_of, puts};
-ghost use Rattle.vecmap_base.specs.Comparisons.{comparisons, cost, search_cost};
+ghost use Rattle.std.specs.{Prelude.{◌≡◌, ◌+◌, ◌<◌, ◌≤◌, [], IfSome, length, swap, take, vec_capacity}, List.Sorted.IsPermutation};
+ghost use Rattle.std.specs.{Map.{keys_of, values_of}, Set.is_member};
+ghost use Rattle.vecmap_base.specs.{Items.adds, Pairs.{index_of, puts}, Comparisons.{comparisons, cost, search_cost}};
 
 use crate::steps::Steps;
 use std::mem;

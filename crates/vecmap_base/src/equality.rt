@@ -1,6 +1,5 @@
 //! Equality of lists of pairs as maps, where the order of the pairs makes no difference.
-ghost use Rattle.std.specs.Prelude.{◌≡◌, ◌<◌, ◌≤◌, ◌&&◌, drop, length, nat_eq, not, take, true};
-ghost use Rattle.std.specs.List.{AllZip};
+ghost use Rattle.std.specs.{Prelude.{◌≡◌, ◌<◌, ◌≤◌, ◌&&◌, drop, length, nat_eq, not, take, true}, List.AllZip};
 ghost use Rattle.vecmap_base.specs.Equality.{FirstDiffer, count, counts_agree, has_same_counts, same_pair};
 
 use crate::matching::{is_same, pairs_match_by_marks, pairs_match_crosswise};

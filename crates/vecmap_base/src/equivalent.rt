@@ -1,12 +1,8 @@
 //! Queries that match keys or elements.
 ghost use Rattle.std.proofs.lemmas.Bool.{and_parts};
-ghost use Rattle.std.specs.Prelude.{◌≡◌, ◌&&◌, Bool, bytes_eq, string_bytes};
-ghost use Rattle.std.specs.Arc.{arc_slice_items, arc_str_bytes};
-ghost use Rattle.std.specs.Box.{boxed_slice_items, boxed_str_bytes};
-ghost use Rattle.std.specs.Cmp.Lexicographic.{lists_equiv, nat_list_eq_equiv, pointwise};
-ghost use Rattle.std.specs.Cow.{cow_str_bytes};
-ghost use Rattle.std.specs.Map.{IsKeyTest};
-ghost use Rattle.std.specs.Rc.{rc_slice_items, rc_str_bytes};
+ghost use Rattle.std.specs.{Prelude.{◌≡◌, ◌&&◌, Bool, bytes_eq, string_bytes}, Arc.{arc_slice_items, arc_str_bytes}, Cow.cow_str_bytes};
+ghost use Rattle.std.specs.{Box.{boxed_slice_items, boxed_str_bytes}, Cmp.Lexicographic.{lists_equiv, nat_list_eq_equiv, pointwise}};
+ghost use Rattle.std.specs.{Map.IsKeyTest, Rc.{rc_slice_items, rc_str_bytes}};
 ghost use Rattle.vecmap_base.specs.Pairs.{has_text};
 
 use std::borrow::CowStr;

@@ -7,14 +7,9 @@
 //! they can compare in no other way. The other searches call them with a [`Counter`] that nobody reads: the functions
 //! `.._with` open it, since its ledger is chosen by the proof of their caller. Counters have no size and no code, so begin
 //! to read at `find_by`.
-ghost use Rattle.std.specs.Prelude.{◌≡◌, ◌+◌, ◌<◌, ◌≤◌, IfSome, IsTrue, None, false, length, position};
-ghost use Rattle.std.specs.List.{list_any};
-ghost use Rattle.std.specs.Map.{keys_of};
-ghost use Rattle.std.specs.Option.{option_map_or};
-ghost use Rattle.std.specs.Set.{is_member};
-ghost use Rattle.vecmap_base.specs.Items.{item_index};
-ghost use Rattle.vecmap_base.specs.Pairs.{has_text, index_by, index_of};
-ghost use Rattle.vecmap_base.specs.Comparisons.{search_cost_by};
+ghost use Rattle.std.specs.{Prelude.{◌≡◌, ◌+◌, ◌<◌, ◌≤◌, IfSome, IsTrue, None, false, length, position}, List.list_any, Map.keys_of};
+ghost use Rattle.std.specs.{Option.option_map_or, Set.is_member};
+ghost use Rattle.vecmap_base.specs.{Items.item_index, Pairs.{has_text, index_by, index_of}, Comparisons.search_cost_by};
 
 use crate::compare::{Compare, Counter};
 use crate::equivalent::Equivalent;

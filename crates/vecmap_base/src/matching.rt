@@ -1,6 +1,5 @@
 //! A one-to-one match of the pairs of two lists. A matched pair is marked, so that no other pair is matched with it.
-ghost use Rattle.std.specs.Prelude.{◌≡◌, ◌<◌, ◌≤◌, ◌^◌, IfSome, None, false, length, replicate, slice_index_or, true};
-ghost use Rattle.std.specs.List.{list_any};
+ghost use Rattle.std.specs.{Prelude.{◌≡◌, ◌<◌, ◌≤◌, ◌^◌, IfSome, None, false, length, replicate, slice_index_or, true}, List.list_any};
 ghost use Rattle.vecmap_base.specs.Equality.{FirstDiffer, counts_agree, free, same_pair};
 
 use crate::lookup::find;

@@ -4,8 +4,7 @@
 //! references, [`IterMutOf`](crate::IterMutOf) mutable references, and [`IntoIterOf`](crate::IntoIterOf) values. The
 //! last type parameters of each are the type of the part and a projection, as `K` and `Key` in `Keys<'a, K, V>`, which
 //! is `IterOf<'a, (K, V), K, Key>`.
-ghost use Rattle.std.specs.Prelude.{◌≡◌};
-ghost use Rattle.std.specs.Map.Iter.{deref, deref_pair, deref_pair_mut};
+ghost use Rattle.std.specs.{Prelude.{◌≡◌}, Map.Iter.{deref, deref_pair, deref_pair_mut}};
 ghost use Rattle.vecmap_base.specs.Iterators.{deref_both_mut, deref_mut};
 
 /// A part, of type `T`, of each item of type `X`.

@@ -42,9 +42,7 @@ impl<T: Drop> From<Refused<T>> for AllocError {
 /// io::Error::from(refused).kind() // io::ErrorKind::OutOfMemory
 /// ```
 impl<T: Drop> From<Refused<T>> for io::Error {
-    ghost use Rattle.std.specs.IoError.{error_kind};
-    ghost use Rattle.std.specs.Prelude.{◌≡◌};
-    ghost use Rattle.std.specs.declared.io.ErrorKind.TheVariants.{OutOfMemory};
+    ghost use Rattle.std.specs.{IoError.error_kind, Prelude.{◌≡◌}, declared.io.ErrorKind.TheVariants.OutOfMemory};
 
     ghost from_gives = { λ _ e. error_kind e ≡ OutOfMemory };
 

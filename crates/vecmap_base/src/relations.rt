@@ -1,9 +1,6 @@
 //! Relations of two lists of items, seen as sets.
-ghost use Rattle.std.specs.Prelude.{◌≡◌, ◌↔◌, IsTrue, []};
-ghost use Rattle.std.specs.List.{list_any};
-ghost use Rattle.std.specs.Set.{is_member};
-ghost use Rattle.vecmap_base.specs.Equality.{is_within};
-ghost use Rattle.vecmap_base.specs.Items.{both};
+ghost use Rattle.std.specs.{Prelude.{◌≡◌, ◌↔◌, IsTrue, []}, List.list_any, Set.is_member};
+ghost use Rattle.vecmap_base.specs.{Equality.is_within, Items.both};
 
 use crate::lookup::{
     MIN_LENGTH_FOR_BLOCKS, MIN_LENGTH_FOR_CALL, are_small, contains_by_std, contains_in_blocks,

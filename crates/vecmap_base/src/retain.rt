@@ -1,10 +1,7 @@
 //! Functions that retain the items for which a closure returns `true`. Nothing is shifted, and one truncation at the
 //! end removes the others.
-ghost use Rattle.std.specs.Prelude.{◌≡◌, ◌+◌, ◌≤◌, ◌&&◌, Bool, None, Option, if◌then◌else◌, length, vec_capacity};
-ghost use Rattle.std.specs.Fn.{TakesAt};
-ghost use Rattle.std.specs.List.{list_any};
-ghost use Rattle.std.specs.Map.{IsKeyTest};
-ghost use Rattle.std.specs.Option.{option_and_then};
+ghost use Rattle.std.specs.{Prelude.{◌≡◌, ◌+◌, ◌≤◌, ◌&&◌, Bool, None, Option, if◌then◌else◌, length, vec_capacity}, Fn.TakesAt};
+ghost use Rattle.std.specs.{List.list_any, Map.IsKeyTest, Option.option_and_then};
 ghost use Rattle.vecmap_base.specs.Asked.{CallableAtPair, CallableAtPairMut, CallableOnEach, CallsAtItem, CallsAtPair, CallsAtPairMut};
 ghost use Rattle.vecmap_base.specs.Kept.{FiltersValues, KeepsKeys, Kept, KeptSoFar, ReturnsAt, ReturnsAtKey};
 ghost use Rattle.vecmap_base.specs.Pairs.{HasDistinctKeys, lookup_by};

@@ -6,8 +6,7 @@
 //! the first that passes.
 //!
 //! No type of theirs has a bound, so they compare a query with an item by `Compare::same` alone, which counts.
-ghost use Rattle.std.specs.Prelude.{◌≡◌, ◌+◌, ◌<◌, ◌≤◌, ◌||◌, IfSome, None, Some, false, length, position, take};
-ghost use Rattle.std.specs.List.{list_any};
+ghost use Rattle.std.specs.{Prelude.{◌≡◌, ◌+◌, ◌<◌, ◌≤◌, ◌||◌, IfSome, None, Some, false, length, position, take}, List.list_any};
 ghost use Rattle.std.specs.Option.{option_map_or};
 ghost use Rattle.vecmap_base.specs.Comparisons.{search_cost_by};
 

@@ -1,7 +1,5 @@
 //! The function that writes each value of a slice of pairs by a closure.
-ghost use Rattle.std.specs.Prelude.{◌≡◌, Bool, length, map};
-ghost use Rattle.std.specs.Map.{keys_of};
-ghost use Rattle.std.specs.Option.{option_map};
+ghost use Rattle.std.specs.{Prelude.{◌≡◌, Bool, length, map}, Map.keys_of, Option.option_map};
 ghost use Rattle.vecmap_base.specs.Pairs.{lookup_by};
 ghost use Rattle.vecmap_base.specs.Updated.{AlwaysComputes, CallableAtValue, CallableOnValues, Computes, Updated, WritesValueAt};
 

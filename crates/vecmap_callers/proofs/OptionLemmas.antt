@@ -1,7 +1,5 @@
 -- What an option is after overrides are laid over others.
-use Rattle.std.specs.Prelude.{◌≡◌, Bool, List}
-use Rattle.std.specs.Cmp.{IsEquivalence}
-use Rattle.std.specs.Option.{option_or}
+use Rattle.std.specs.{Prelude.{◌≡◌, Bool, List}, Cmp.IsEquivalence, Option.option_or}
 use Rattle.std.proofs.Common.{ap, ◌∙◌}
 use Rattle.vecmap.specs.Pairs.{HasDistinctKeys, lookup, puts}
 use Rattle.vecmap_laws.proofs.AfterPuts.{lookup_puts_distinct, option_or_assoc}

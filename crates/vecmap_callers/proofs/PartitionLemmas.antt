@@ -1,16 +1,9 @@
 -- What a call that reads a whole iterator by value says of all of its items.
-use Rattle.std.proofs.Common.{◌≡◌, ◌∙◌, Bool, Err, List, [], Ok, Option, Result, filter, subst, true}
-use Rattle.std.specs.Cmp.{IsEquivalence}
-use Rattle.std.specs.Iterator.{DrainsIf}
-use Rattle.std.specs.Iterator.Runs.{Run, YieldsRun}
-use Rattle.std.specs.Map.Iter.{TakesFirst}
-use Rattle.std.specs.Prelude.{IfOk}
-use Rattle.std.proofs.lemmas.Iterator.Adapters.{fact_from_collect}
-use Rattle.std.proofs.lemmas.Iterator.Consumers.{YieldsList-from_rest}
-use Rattle.std.proofs.lemmas.Result.{IfOk-weaker}
+use Rattle.std.proofs.{Common.{◌≡◌, ◌∙◌, Bool, Err, List, [], Ok, Option, Result, filter, subst, true}, lemmas.Result.IfOk-weaker}
+use Rattle.std.specs.{Cmp.IsEquivalence, Iterator.DrainsIf, Iterator.Runs.{Run, YieldsRun}, Map.Iter.TakesFirst, Prelude.IfOk}
+use Rattle.std.proofs.{lemmas.Iterator.Adapters.fact_from_collect, lemmas.Iterator.Consumers.YieldsList-from_rest}
 use Rattle.vecmap.specs.Pairs.{HasDistinctKeys, puts}
-use Rattle.vecmap_laws.proofs.DistinctParts.{distinct_keys_filter}
-use Rattle.vecmap_laws.proofs.Puts.{puts_distinct}
+use Rattle.vecmap_laws.proofs.{DistinctParts.distinct_keys_filter, Puts.puts_distinct}
 
 module _ {S A : Type 0} {steps : S → Option A → S → Type 0} (p : Run steps) where
   -- The items that a run read.

@@ -1,9 +1,6 @@
 -- What an `extend` that ran out of memory has taken of a list.
-use Rattle.std.specs.Prelude.{◌≡◌, ℕ, List, Option, Result, Ok, Err, OnErr, MatchResult, length, take}
-use Rattle.std.specs.Iterator.{Drains, Yields}
-use Rattle.std.proofs.Common.{subst, sym, ◌∙◌}
-use Rattle.std.proofs.lemmas.Iterator.{YieldsList}
-use Rattle.std.proofs.lemmas.Iterator.Consumers.{YieldsList-so_far}
+use Rattle.std.specs.{Prelude.{◌≡◌, ℕ, List, Option, Result, Ok, Err, OnErr, MatchResult, length, take}, Iterator.{Drains, Yields}}
+use Rattle.std.proofs.{Common.{subst, sym, ◌∙◌}, lemmas.Iterator.YieldsList, lemmas.Iterator.Consumers.YieldsList-so_far}
 use Rattle.std.proofs.lemmas.List.{map-id}
 
 -- `P` holds of the first items.

@@ -1,7 +1,5 @@
 -- What a header list with several values for a name holds: pairs of a name's bytes and the vector of its values.
-use Rattle.std.specs.Prelude.{ℕ, List, [], String, Vec}
-use Rattle.std.specs.Option.{option_map_or}
-use Rattle.std.specs.Str.{str_eq_ignore_ascii_case}
+use Rattle.std.specs.{Prelude.{ℕ, List, [], String, Vec}, Option.option_map_or, Str.str_eq_ignore_ascii_case}
 use Rattle.vecmap.specs.Pairs.{lookup}
 
 -- The values of a name, in any case, or none if no field has the name.

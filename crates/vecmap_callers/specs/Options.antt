@@ -1,6 +1,5 @@
 -- What a list of options holds, and the value of each option.
-use Rattle.std.specs.Prelude.{Bool, List, Option}
-use Rattle.std.specs.Option.{option_or}
+use Rattle.std.specs.{Prelude.{Bool, List, Option}, Option.option_or}
 use Rattle.vecmap.specs.Pairs.{lookup}
 
 -- The default of each option, and the overrides, which are read first.

@@ -1,8 +1,6 @@
 -- What names mean in nested scopes. The outermost scope is the first of the list, and the innermost is the last.
-use Rattle.std.specs.Prelude.{◌-◌, Bool, List, None, Option, fold, length, take}
-use Rattle.std.specs.Option.{option_or}
-use Rattle.vecmap.specs.Contents.{Contents}
-use Rattle.vecmap.specs.Pairs.{lookup}
+use Rattle.std.specs.{Prelude.{◌-◌, Bool, List, None, Option, fold, length, take}, Option.option_or}
+use Rattle.vecmap.specs.{Contents.Contents, Pairs.lookup}
 
 module _ {K V : Type 0} where
   -- The value of a name in the innermost scope that defines it, or `None` if no scope does.

@@ -1,6 +1,5 @@
 -- What stands at the paths of a tree.
-use Rattle.std.specs.Prelude.{ℕ, List, [], ◌∷◌, Option, nat_eq}
-use Rattle.std.specs.Option.{option_and_then}
+use Rattle.std.specs.{Prelude.{ℕ, List, [], ◌∷◌, Option, nat_eq}, Option.option_and_then}
 use Rattle.vecmap.specs.Pairs.{lookup}
 use Rattle.vecmap_callers.specs.declared.trees.Tree.{Tree, out-Tree}
 

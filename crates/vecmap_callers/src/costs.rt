@@ -1,8 +1,6 @@
 //! Callers that count their comparisons: a search of the map's slice counts, and the call after it compares nothing.
-ghost use Rattle.std.specs.Prelude.{◌≡◌, ◌+◌, ◌≤◌, [], IfOk, OnOk, length, nat_eq};
-ghost use Rattle.std.specs.Map.{keys_of};
-ghost use Rattle.vecmap.specs.Comparisons.{comparisons, cost, search_cost};
-ghost use Rattle.vecmap.specs.Pairs.{put, puts};
+ghost use Rattle.std.specs.{Prelude.{◌≡◌, ◌+◌, ◌≤◌, [], IfOk, OnOk, length, nat_eq}, Map.keys_of};
+ghost use Rattle.vecmap.specs.{Comparisons.{comparisons, cost, search_cost}, Pairs.{put, puts}};
 
 use std::alloc::{AllocError, Global};
 use std::sync::ledger::Ledger;

@@ -5,9 +5,7 @@
 //! let named = vecmap!(alloc; Name::new(String::from_str(alloc, "Accept")?) => 3);
 //! value_of_name(&named, "ACCEPT") // Some(3)
 //! ```
-ghost use Rattle.std.specs.Prelude.{◌≡◌};
-ghost use Rattle.std.specs.Cmp.Lexicographic.{nat_list_eq_equiv};
-ghost use Rattle.std.specs.Str.{str_eq_ignore_ascii_case, str_to_ascii_lowercase};
+ghost use Rattle.std.specs.{Prelude.{◌≡◌}, Cmp.Lexicographic.nat_list_eq_equiv, Str.{str_eq_ignore_ascii_case, str_to_ascii_lowercase}};
 ghost use Rattle.vecmap.specs.Pairs.{lookup, lookup_by};
 
 pub use attr_doc::Name;

@@ -13,10 +13,8 @@
 //! headers.remove("host").is_some() // true
 //! ```
 ghost use Rattle.std.specs.Prelude.{◌≡◌, ◌++◌, ◌∷◌, ℕ, List, None, OnErr, OnOk, [], false, option_map, slice_get, string_bytes, unwrap_or};
-ghost use Rattle.std.specs.Map.{keys_of};
-ghost use Rattle.std.specs.Str.{str_eq_ignore_ascii_case};
-ghost use Rattle.vecmap.specs.Items.{add, without_item};
-ghost use Rattle.vecmap.specs.Pairs.{HasDistinctKeys, lookup, without_key};
+ghost use Rattle.std.specs.{Map.keys_of, Str.str_eq_ignore_ascii_case};
+ghost use Rattle.vecmap.specs.{Items.{add, without_item}, Pairs.{HasDistinctKeys, lookup, without_key}};
 ghost use Rattle.vecmap_callers.specs.HeaderLists.{values_of};
 
 use crate::equivalent::{Name, NamedAs};
@@ -32,9 +30,7 @@ pub struct HeaderList {
 }
 
 impl Model for HeaderList {
-    ghost use Rattle.std.specs.Prelude.{ℕ, List, String, Vec};
-    ghost use Rattle.std.specs.declared.alloc.Global.{Global};
-    ghost use Rattle.std.specs.Str.{str_eq_ignore_ascii_case};
+    ghost use Rattle.std.specs.{Prelude.{ℕ, List, String, Vec}, declared.alloc.Global.Global, Str.str_eq_ignore_ascii_case};
     ghost use Rattle.vecmap.specs.Pairs.{HasDistinctKeys};
 
     ghost Value = { List (List ℕ × Vec (String Global) Global) };

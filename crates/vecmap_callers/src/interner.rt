@@ -30,8 +30,7 @@ pub struct Interner {
 }
 
 impl Model for Interner {
-    ghost use Rattle.std.specs.Prelude.{List, String};
-    ghost use Rattle.std.specs.declared.alloc.Global.{Global};
+    ghost use Rattle.std.specs.{Prelude.{List, String}, declared.alloc.Global.Global};
 
     ghost Value = { List (String Global) };
 

@@ -9,11 +9,9 @@
 //! both_ends(&mut map) // (Some(4), Some(7))
 //! sum_of_values(map) // Some(18)
 //! ```
-ghost use Rattle.std.specs.List.{All};
-ghost use Rattle.std.specs.Map.{keys_of, values_of};
+ghost use Rattle.std.specs.{List.All, Map.{keys_of, values_of}};
 ghost use Rattle.std.specs.Prelude.{◌≡◌, ◌<◌, ◌≤◌, ◌^◌, ◌∷◌, ℕ, IfOk, IfSome, List, None, Some, [], length, nat_eq, option_map, reverse, sum};
-ghost use Rattle.vecmap.specs.Iterators.{deref_mut};
-ghost use Rattle.vecmap.specs.Pairs.{lookup};
+ghost use Rattle.vecmap.specs.{Iterators.deref_mut, Pairs.lookup};
 ghost use Rattle.vecmap_laws.specs.Pulls.{Pulls, back, front};
 
 use std::alloc::{AllocError, Global};

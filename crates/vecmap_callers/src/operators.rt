@@ -6,11 +6,8 @@
 //! let (x, y) = (vecmap!(alloc; 1u32 => 'a', 2 => 'b'), vecmap!(alloc; 2u32 => 'c', 3 => 'd'));
 //! keys_of_one(alloc, &x, &y)?.as_slice() // [1, 3]
 //! ```
-ghost use Rattle.std.specs.Map.{keys_of};
-ghost use Rattle.std.specs.Prelude.{◌≡◌, ◌<◌, ◌^◌, ◌↔◌, ◌&&◌, ◌||◌, IfOk, IsTrue, [], nat_eq, not, sum};
-ghost use Rattle.std.specs.Set.{is_member};
-ghost use Rattle.vecmap.specs.Items.{adds, both};
-ghost use Rattle.vecmap.specs.Operators.{symmetric_difference_of};
+ghost use Rattle.std.specs.{Map.keys_of, Prelude.{◌≡◌, ◌<◌, ◌^◌, ◌↔◌, ◌&&◌, ◌||◌, IfOk, IsTrue, [], nat_eq, not, sum}, Set.is_member};
+ghost use Rattle.vecmap.specs.{Items.{adds, both}, Operators.symmetric_difference_of};
 ghost use Rattle.vecmap_laws.specs.Algebra.{lazy_union};
 
 use std::alloc::{AllocError, Global};

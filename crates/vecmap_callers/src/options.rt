@@ -15,8 +15,7 @@
 //! options.settle()?;
 //! options.defaults() // [("port", 80), ("depth", 4)]
 //! ```
-ghost use Rattle.std.specs.Prelude.{◌≡◌, IfErr, None, OnErr, OnOk, Some, [], false, if◌then◌else◌, option_copied};
-ghost use Rattle.std.specs.Option.{option_or};
+ghost use Rattle.std.specs.{Prelude.{◌≡◌, IfErr, None, OnErr, OnOk, Some, [], false, if◌then◌else◌, option_copied}, Option.option_or};
 ghost use Rattle.vecmap.specs.Pairs.{lookup, lookup_by, put, puts, without_key};
 ghost use Rattle.vecmap_callers.specs.Options.{Layers, setting};
 

@@ -6,9 +6,7 @@
 //! scores.as_slice() // [('b', 3), ('c', 3), ('a', 1)]
 //! search_by_rank(&vecmap!(alloc; 'a' => 0usize, 'b' => 2), &[5, 6, 7], 7) // Ok(1)
 //! ```
-ghost use Rattle.std.specs.List.{All};
-ghost use Rattle.std.specs.List.Sorted.{IsBinarySearchResult, IsSortedBy, IsStableBy};
-ghost use Rattle.std.specs.Ordering.{nat_cmp};
+ghost use Rattle.std.specs.{List.All, List.Sorted.{IsBinarySearchResult, IsSortedBy, IsStableBy}, Ordering.nat_cmp};
 ghost use Rattle.std.specs.Prelude.{◌<◌, OnOk, get_or, length, nat_lt};
 
 use std::alloc::AllocError;

@@ -5,10 +5,8 @@
 //! let (adults, children) = partition_by(alloc, ages, &|_name, age| *age >= 18)?;
 //! (adults.as_slice(), children.as_slice()) // ([('a', 30), ('c', 41)], [('b', 12)])
 //! ```
-ghost use Rattle.std.specs.Borrow.{Bor};
-ghost use Rattle.std.specs.Prelude.{◌≡◌, Bool, IfOk, filter, not};
-ghost use Rattle.vecmap.specs.Orders.{ReturnsOnPair};
-ghost use Rattle.vecmap.specs.Pairs.{HasDistinctKeys};
+ghost use Rattle.std.specs.{Borrow.Bor, Prelude.{◌≡◌, Bool, IfOk, filter, not}};
+ghost use Rattle.vecmap.specs.{Orders.ReturnsOnPair, Pairs.HasDistinctKeys};
 
 use std::alloc::{AllocError, Global};
 use vecmap::VecMap;

@@ -7,9 +7,7 @@
 //! map.as_slice() // [(1, 1), (3, 4), (4, 6)]
 //! ```
 ghost use Rattle.std.specs.Prelude.{◌≡◌, ◌≤◌, OnErr, OnOk, length};
-ghost use Rattle.vecmap.specs.Asked.{CallsAtPair};
-ghost use Rattle.vecmap.specs.Kept.{Kept};
-ghost use Rattle.vecmap.specs.Pairs.{HasDistinctKeys};
+ghost use Rattle.vecmap.specs.{Asked.CallsAtPair, Kept.Kept, Pairs.HasDistinctKeys};
 
 use std::alloc::AllocError;
 use vecmap::VecMap;

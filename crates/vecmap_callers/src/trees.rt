@@ -6,8 +6,7 @@
 //! tree.insert(alloc, &[1], 10)?;
 //! (tree.get(&[1, 2]), tree.get(&[1]), tree.get(&[])) // (Some(12), Some(10), None)
 //! ```
-ghost use Rattle.std.specs.Prelude.{◌≡◌, ℕ, List, None, OnErr, OnOk, Some, if◌then◌else◌, nat_eq};
-ghost use Rattle.std.specs.Cmp.Lexicographic.{pointwise};
+ghost use Rattle.std.specs.{Prelude.{◌≡◌, ℕ, List, None, OnErr, OnOk, Some, if◌then◌else◌, nat_eq}, Cmp.Lexicographic.pointwise};
 ghost use Rattle.vecmap_callers.specs.Trees.{value_at};
 
 use std::alloc::{AllocError, Global};

@@ -11,9 +11,7 @@
 //! push_in_slice(&mut lists, 2)?;
 //! lists[0].as_slice() // [1, 2]
 //! ```
-ghost use Rattle.std.specs.Prelude.{◌≡◌, ◌+◌, ◌++◌, ◌∷◌, ◌-◌, ◌<◌, ◌^◌, OnErr, OnOk, [], map, min};
-ghost use Rattle.std.specs.List.{All};
-ghost use Rattle.std.specs.Map.{keys_of};
+ghost use Rattle.std.specs.{Prelude.{◌≡◌, ◌+◌, ◌++◌, ◌∷◌, ◌-◌, ◌<◌, ◌^◌, OnErr, OnOk, [], map, min}, List.All, Map.keys_of};
 ghost use Rattle.vecmap.specs.Pairs.{map_values};
 ghost use Rattle.vecmap_callers.specs.Updating.{IsMappedInPart, lists_of};
 

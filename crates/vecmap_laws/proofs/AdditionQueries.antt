@@ -4,10 +4,8 @@ use Rattle.std.specs.{Cmp.IsEquivalence, Map.IsKeyTest}
 use Rattle.std.proofs.Common.{arith, ◌≡◌, Bool, false, List, [], ◌∷◌, Some, IsTrue, if◌then◌else◌, length, option_map, position, unwrap_or, sym, ap, ◌∙◌}
 use Rattle.std.proofs.lemmas.Bool.{cases_Bool}
 use Rattle.vecmap_base.specs.Items.{add, item_index}
-use Rattle.vecmap_base.proofs.ItemsLemmas.Recursion.{add_cons}
-use Rattle.vecmap_base.proofs.IndexLemmas.{position_cons}
-use Rattle.vecmap_laws.proofs.ItemIndices.{item_index_add}
-use Rattle.vecmap_laws.proofs.ItemQueries.{tells_as}
+use Rattle.vecmap_base.proofs.{ItemsLemmas.Recursion.add_cons, IndexLemmas.position_cons}
+use Rattle.vecmap_laws.proofs.{ItemIndices.item_index_add, ItemQueries.tells_as}
 
 module _ {T : Type 0} (eq : T → T → Bool) (test : T → Bool) where
   -- After an addition of an element that does not match, it finds what it found before.

@@ -1,13 +1,11 @@
 -- What `intersection` and `union` yield, whichever of two lists is longer. The idea: a fact about two lists in either
 -- order is one about the shorter and the other.
-use Rattle.std.specs.Set.{is_member}
+use Rattle.std.specs.{Set.is_member, Cmp.IsEquivalence, List.IsDistinct}
 use Rattle.std.proofs.Common.{◌≡◌, ◌+◌, ◌∙◌, Bool, true, ◌&&◌, ◌||◌, List, [], arith, length, nat_lt, not}
-use Rattle.std.specs.{Cmp.IsEquivalence, List.IsDistinct}
 use Rattle.vecmap_base.specs.{Equality.has_same_items, Items.adds, Items.both}
 use Rattle.vecmap_base.proofs.EqualityLemmas.{Sets.set_equality_laws}
 use Rattle.vecmap_set.specs.{Lazy.longer, Lazy.not_longer, Lazy.not_shorter, Lazy.shorter, Operators.symmetric_difference_of, Operators.union_of}
-use Rattle.vecmap_laws.proofs.ItemMembers.{is_member_adds}
-use Rattle.vecmap_laws.proofs.SetRelations.{both_turned, length_both_turned, length_union, union_turned}
+use Rattle.vecmap_laws.proofs.{ItemMembers.is_member_adds, SetRelations.{both_turned, length_both_turned, length_union, union_turned}}
 use Rattle.vecmap_laws.specs.Algebra.{lazy_intersection, lazy_union}
 pub use Rattle.vecmap_set.proofs.OperatorLemmas.{is_member_symmetric_difference}
 

@@ -1,20 +1,13 @@
 -- The lemmas of the rulesets of lookups and of members, at texts: `grind` sees the `==` of texts as it computes, so it
 -- matches a lemma that is stated of it, and not one of any `==`.
-use Rattle.std.specs.{String.string_eq_equiv}
+use Rattle.std.specs.{String.string_eq_equiv, Cmp.nat_eq_equiv, declared.alloc.Global.Global}
 use Rattle.std.proofs.Common.{rules, ◌≡◌, ℕ, String, List, None, Some, IsTrue, bytes_eq, eqb-true, if◌then◌else◌, nat_eq, string_eq}
-use Rattle.vecmap_base.specs.Pairs.{HasDistinctKeys, has_text, lookup, lookup_by, put, without_by}
-use Rattle.vecmap_laws.proofs.Equations.{put_put}
-use Rattle.vecmap_laws.proofs.MapEquality.{lookups_of_equal}
-use Rattle.vecmap_base.specs.Equality.{has_same_counts}
-use Rattle.std.specs.Cmp.{nat_eq_equiv}
-use Rattle.vecmap_laws.proofs.Lookups.{lookup_without_apart}
+use Rattle.vecmap_base.specs.{Pairs.{HasDistinctKeys, has_text, lookup, lookup_by, put, without_by}, Equality.has_same_counts}
+use Rattle.vecmap_laws.proofs.{Equations.put_put, MapEquality.lookups_of_equal, Lookups.lookup_without_apart, TextQueries.same_texts}
 use Rattle.vecmap_laws.proofs.Queries.{lookup_put_any_query, lookup_without_query, string_equality, text_respects}
-use Rattle.vecmap_laws.proofs.TextQueries.{same_texts}
 use Rattle.vecmap_laws.proofs.WriteLemmas.{texts_apart}
-use Rattle.std.specs.declared.alloc.Global.{Global}
 
 module _ {A V : Type 0} where
-
   pub put_put_of_texts : (l : List (String A × V)) (k : String A) (v w : V) → put string_eq (put string_eq l k v) k w ≡ put string_eq l k w
   put_put_of_texts = put_put string_eq string_eq_equiv
 

@@ -1,9 +1,7 @@
 -- A map is equal to its clone, if clones are equal to their originals.
-use Rattle.std.proofs.lemmas.Grind.{common_steps}
-use Rattle.std.proofs.Common.{arith, ◌≡◌, Bool, true, List, [], ◌∷◌, ◌∙◌}
+use Rattle.std.proofs.{lemmas.Grind.common_steps, Common.{arith, ◌≡◌, Bool, true, List, [], ◌∷◌, ◌∙◌}}
 use Rattle.std.proofs.lemmas.Map.Entries.{entries_from_clone}
-use Rattle.std.specs.{Cmp.IsEquivalence, Cmp.nat_eq_equiv}
-use Rattle.std.specs.Prelude.{ℕ, nat_eq}
+use Rattle.std.specs.{Cmp.IsEquivalence, Cmp.nat_eq_equiv, Prelude.{ℕ, nat_eq}}
 use Rattle.vecmap_base.specs.{Clones.ArePairClones, Equality.count, Equality.has_same_counts, Equality.same_pair}
 use Rattle.vecmap_base.proofs.EqualityLemmas.{Counts.many_cons, Counts.test_from_counts, Maps.counts_as_often, Maps.map_equality_laws, Maps.same_pair_laws}
 

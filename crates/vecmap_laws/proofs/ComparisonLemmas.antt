@@ -2,10 +2,8 @@
 use Rattle.std.specs.{Cmp.IsEquivalence, List.IsDistinct, Map.keys_of}
 use Rattle.std.proofs.Common.{◌≡◌, suc, ◌+◌, Bool, List, [], ◌∷◌, ◌++◌, length, sym, ap, ◌∙◌, subst, arith}
 use Rattle.std.proofs.lemmas.{List.append_assoc, List.length_push, Map.Entries.length-keys_of}
-use Rattle.vecmap_base.specs.Pairs.{HasDistinctKeys}
-use Rattle.vecmap_base.specs.Comparisons.{adds_cost, comparisons, cost}
-use Rattle.vecmap_base.proofs.ItemsLemmas.Additions.{add_absent}
-use Rattle.vecmap_base.proofs.DuplicatesLemmas.Cost.{cost_more}
+use Rattle.vecmap_base.specs.{Pairs.HasDistinctKeys, Comparisons.{adds_cost, comparisons, cost}}
+use Rattle.vecmap_base.proofs.{ItemsLemmas.Additions.add_absent, DuplicatesLemmas.Cost.cost_more}
 use Rattle.vecmap_base.proofs.DuplicatesLemmas.Comparisons.{search_cost_absent}
 use Rattle.vecmap_laws.proofs.DistinctAbsent.{none_before}
 

@@ -1,7 +1,6 @@
 -- Insertions that keep a list distinct.
 use Rattle.std.specs.{Cmp.IsEquivalence, List.IsDistinct, List.list_any}
-use Rattle.std.proofs.Common.{◌≡◌, ℕ, Bool, false, List, ◌∷◌, insert}
-use Rattle.std.proofs.lemmas.{List.Sorted.IsPermutation-insert}
+use Rattle.std.proofs.{Common.{◌≡◌, ℕ, Bool, false, List, ◌∷◌, insert}, lemmas.{List.Sorted.IsPermutation-insert}}
 use Rattle.vecmap_base.proofs.DistinctLemmas.{Absent.distinct_if_absent, Order.distinct_rearranged}
 pub use Rattle.vecmap_base.proofs.DistinctLemmas.Additions.{distinct_add, distinct_adds}
 

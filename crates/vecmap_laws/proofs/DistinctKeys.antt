@@ -1,20 +1,13 @@
 -- Keys that are distinct stay distinct in the lists that calls leave.
-use Rattle.std.specs.Set.{is_member}
-use Rattle.std.specs.{Cmp.IsEquivalence, List.IsDistinct, Map.keys_of, Option.option_map_or}
+use Rattle.std.specs.{Set.is_member, Cmp.IsEquivalence, List.IsDistinct, Map.keys_of, Option.option_map_or}
 use Rattle.std.proofs.Common.{◌≡◌, ℕ, ◌-◌, Bool, false, List, Option, None, Some, insert, is_some, length, min, remove, take, refl, sym, ap, subst, ◌∙◌}
 use Rattle.std.proofs.lemmas.{List.take-map}
-use Rattle.vecmap_base.specs.{Items.without_item}
-use Rattle.vecmap_base.specs.Pairs.{HasDistinctKeys, index_of, put_at, puts, swap_without_key, with_value}
-use Rattle.vecmap_base.proofs.PairsLemmas.Keys.{index_of_is}
-use Rattle.vecmap_base.proofs.PairsLemmas.{Values.keys_of_with_value}
-use Rattle.vecmap_base.proofs.IndexLemmas.{is_some_position}
-use Rattle.vecmap_base.proofs.DistinctLemmas.Removals.{distinct_remove, distinct_take}
-use Rattle.vecmap_laws.proofs.DistinctAdditions.{distinct_insert}
-use Rattle.vecmap_laws.proofs.ItemRemovals.{without_item_absent}
-use Rattle.vecmap_laws.proofs.Keys.{keys_of_insert, keys_of_remove}
+use Rattle.vecmap_base.specs.{Items.without_item, Pairs.{HasDistinctKeys, index_of, put_at, puts, swap_without_key, with_value}}
+use Rattle.vecmap_base.proofs.{PairsLemmas.Keys.index_of_is, PairsLemmas.{Values.keys_of_with_value}, IndexLemmas.is_some_position}
+use Rattle.vecmap_base.proofs.{DistinctLemmas.Removals.{distinct_remove, distinct_take}, PairsLemmas.Parts.joins_puts}
+use Rattle.vecmap_laws.proofs.{DistinctAdditions.distinct_insert, ItemRemovals.without_item_absent, Keys.{keys_of_insert, keys_of_remove}}
 use Rattle.vecmap_laws.proofs.Puts.{put_at_absent, put_at_present}
 pub use Rattle.vecmap_base.proofs.PairsLemmas.Distinct.{distinct_keys_rearranged, distinct_keys_remove, distinct_keys_swap_without, distinct_keys_swap_without_by, distinct_keys_without, distinct_put}
-use Rattle.vecmap_base.proofs.PairsLemmas.Parts.{joins_puts}
 pub use Rattle.vecmap_base.proofs.PairsLemmas.Updates.{distinct_put_key}
 
 module _ {K V : Type 0} (eq : K → K → Bool) where

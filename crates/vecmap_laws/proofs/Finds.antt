@@ -1,19 +1,13 @@
 -- What lookups find after each call, as equations that `grind` applies from left to right. `Rules` has lists of them.
-use Rattle.std.specs.{Cmp.IsEquivalence, List.IsDistinct, List.Sorted.SwapsInRange, List.Sorted.apply_swaps, Set.is_member}
+use Rattle.std.specs.{Cmp.IsEquivalence, List.IsDistinct, List.Sorted.SwapsInRange, List.Sorted.apply_swaps, Set.is_member, Prelude.nat_lt}
 use Rattle.std.proofs.Common.{rules, ◌≡◌, ◌<◌, ◌&&◌, not, ℕ, suc, zero, Bool, true, false, List, [], ◌∷◌, Option, None, Some, if◌then◌else◌, length, refl, sym, ap, ◌∙◌, arith, is_some, take, drop, remove, reverse, swap, unwrap_or}
-use Rattle.std.specs.Prelude.{nat_lt}
 use Rattle.std.proofs.lemmas.{Bool.Decides.nat_tests, List.Sorted.IsPermutation-reverse}
 use Rattle.vecmap_base.specs.Items.{swap_without, swap_without_item, without_item}
 use Rattle.vecmap_base.specs.Pairs.{HasDistinctKeys, index_by, index_of, index_or_length, lookup, lookup_by, put_at, put_key, swap_without_key, without_key}
 use Rattle.vecmap_base.proofs.RemovalLemmas.{swap_removes_by}
-use Rattle.vecmap_laws.proofs.AfterPuts.{is_some_lookup, lookup_put_any, lookup_put_key}
-use Rattle.vecmap_laws.proofs.DistinctKeys.{distinct_keys_rearranged, distinct_keys_without}
-use Rattle.vecmap_laws.proofs.HeadLemmas.{head_has_no_value, rest_is_distinct}
-use Rattle.vecmap_laws.proofs.Indices.{index_or_length_cons}
-use Rattle.vecmap_laws.proofs.Inserted.{lookup_put_at}
-use Rattle.vecmap_laws.proofs.Lookups.{lookup_congr}
-use Rattle.vecmap_laws.proofs.Order.{lookup_rearranged}
-use Rattle.vecmap_laws.proofs.Recursion.{lookup_cons}
+use Rattle.vecmap_laws.proofs.{AfterPuts.{is_some_lookup, lookup_put_any, lookup_put_key}, HeadLemmas.{head_has_no_value, rest_is_distinct}}
+use Rattle.vecmap_laws.proofs.{DistinctKeys.{distinct_keys_rearranged, distinct_keys_without}, Indices.index_or_length_cons}
+use Rattle.vecmap_laws.proofs.{Inserted.lookup_put_at, Lookups.lookup_congr, Order.lookup_rearranged, Recursion.lookup_cons}
 use Rattle.vecmap_laws.proofs.RemovalLemmas.{is_member_by_test, remove_leaves, swap_leaves}
 
 module _ {K V : Type 0} (eq : K → K → Bool) (o : IsEquivalence eq) where

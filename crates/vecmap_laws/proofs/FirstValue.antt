@@ -1,18 +1,10 @@
 -- What is found after insertions of which the first value wins.
 use Rattle.std.proofs.Common.{arith, ◌≡◌, Bool, List, [], ◌∷◌, ◌++◌, None, Some, if◌then◌else◌, ap, refl, sym, unwrap_or, ◌∙◌}
-use Rattle.std.specs.Cmp.{IsEquivalence}
-use Rattle.std.specs.Map.{IsKeyTest, keys_of}
-use Rattle.std.specs.Option.{option_and_then, option_or}
-use Rattle.vecmap_base.proofs.PairsLemmas.Keys.{keys_of_put}
-use Rattle.vecmap_base.proofs.PairsLemmas.ByIndex.{lookup_by_index}
-use Rattle.vecmap_base.proofs.PairsLemmas.Puts.{put_absent}
-use Rattle.vecmap_laws.proofs.AfterPuts.{lookup_put_any, option_or_none, put_same}
-use Rattle.vecmap_laws.proofs.Lookups.{lookup_congr}
-use Rattle.vecmap_laws.proofs.ItemQueries.{tells_as}
-use Rattle.vecmap_laws.proofs.Queries.{lookup_put_other_query}
-use Rattle.vecmap_laws.proofs.Recursion.{lookup_cons}
-use Rattle.vecmap_base.specs.Items.{adds}
-use Rattle.vecmap_base.specs.Pairs.{index_of, lookup, lookup_by, put, value_at}
+use Rattle.std.specs.{Cmp.IsEquivalence, Map.{IsKeyTest, keys_of}, Option.{option_and_then, option_or}}
+use Rattle.vecmap_base.proofs.{PairsLemmas.Keys.keys_of_put, PairsLemmas.ByIndex.lookup_by_index, PairsLemmas.Puts.put_absent}
+use Rattle.vecmap_laws.proofs.{AfterPuts.{lookup_put_any, option_or_none, put_same}, Lookups.lookup_congr, ItemQueries.tells_as}
+use Rattle.vecmap_laws.proofs.{Queries.lookup_put_other_query, Recursion.lookup_cons}
+use Rattle.vecmap_base.specs.{Items.adds, Pairs.{index_of, lookup, lookup_by, put, value_at}}
 use Rattle.vecmap_laws.specs.FirstValue.{put_new, puts_new}
 
 module _ {K V : Type 0} (eq : K → K → Bool) where

@@ -1,6 +1,5 @@
 -- What lookups find is stored.
-use Rattle.std.proofs.Common.{arith, ◌≡◌, ℕ, Bool, true, List, Some, slice_get}
-use Rattle.std.proofs.lemmas.{Option.none-some, Option.same_Some}
+use Rattle.std.proofs.{Common.{arith, ◌≡◌, ℕ, Bool, true, List, Some, slice_get}, lemmas.{Option.none-some, Option.same_Some}}
 use Rattle.vecmap_base.proofs.PairsLemmas.{AtIndices.match_at, ByIndex.lookup_by_index}
 use Rattle.vecmap_base.specs.Pairs.{index_of, lookup}
 

@@ -1,6 +1,5 @@
 -- Lists of distinct keys, and of distinct elements, by the first item and the rest.
-use Rattle.std.proofs.Common.{◌≡◌, Bool, false, List, ◌∷◌, None}
-use Rattle.std.proofs.lemmas.Map.Keys.{IsDistinct-head, IsDistinct-tail}
+use Rattle.std.proofs.{Common.{◌≡◌, Bool, false, List, ◌∷◌, None}, lemmas.Map.Keys.{IsDistinct-head, IsDistinct-tail}}
 use Rattle.std.specs.{List.IsDistinct, List.list_any, Map.keys_of}
 use Rattle.vecmap_base.proofs.DistinctLemmas.Absent.{none_equal}
 use Rattle.vecmap_laws.proofs.Lookups.{lookup_absent}

@@ -1,6 +1,5 @@
 -- What additions, in order, make of a list.
-use Rattle.std.proofs.Common.{◌≡◌, Bool, List, ◌++◌}
-use Rattle.std.proofs.lemmas.List.Sums.{fold-append}
+use Rattle.std.proofs.{Common.{◌≡◌, Bool, List, ◌++◌}, lemmas.List.Sums.fold-append}
 use Rattle.vecmap_base.specs.Items.{add, adds}
 pub use Rattle.vecmap_base.proofs.ItemsLemmas.Additions.{add_absent, add_present, adds_apart, adds_distinct}
 

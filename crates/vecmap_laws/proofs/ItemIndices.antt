@@ -1,13 +1,10 @@
 -- The indices of elements, before and after an addition.
-use Rattle.std.specs.{Cmp.IsEquivalence, List.IsDistinct}
+use Rattle.std.specs.{Cmp.IsEquivalence, List.IsDistinct, Set.is_member, Option.option_or}
 use Rattle.std.proofs.Common.{◌≡◌, ◌<◌, ◌++◌, ℕ, Bool, true, false, List, [], ◌∷◌, None, Option, Some, if◌then◌else◌, length, option_map, slice_get, unwrap_or, refl, sym, ap, ◌∙◌, ◌+◌, arith, is_some, true≢false}
 use Rattle.vecmap_base.specs.Items.{add, item_index}
-use Rattle.vecmap_base.proofs.ItemsLemmas.Recursion.{item_index_cons}
+use Rattle.vecmap_base.proofs.{ItemsLemmas.Recursion.item_index_cons, IndexLemmas.{is_some_position, position_none}}
 use Rattle.vecmap_set.proofs.IndexLemmas.{position_own}
 use Rattle.vecmap_laws.proofs.ItemMembers.{slice_get_append, item_index_append}
-use Rattle.std.specs.Set.{is_member}
-use Rattle.std.specs.Option.{option_or}
-use Rattle.vecmap_base.proofs.IndexLemmas.{is_some_position, position_none}
 use Rattle.vecmap_map.proofs.MadeLemmas.{or_none}
 
 module _ {T : Type 0} (eq : T → T → Bool) where

@@ -1,14 +1,11 @@
 -- Which elements are present, and at which indices, after one addition and after many. Many additions append those of
 -- the new elements that are not present.
-use Rattle.std.proofs.lemmas.Grind.{common_steps}
-use Rattle.std.specs.Set.{is_member}
-use Rattle.std.specs.{Cmp.IsEquivalence, Option.option_or}
+use Rattle.std.proofs.{lemmas.Grind.common_steps, lemmas.{Bool.cases_Bool, List.append-nil, List.append_assoc, List.Folds.list_any-append}}
+use Rattle.std.specs.{Set.is_member, Cmp.IsEquivalence, Option.option_or}
 use Rattle.std.proofs.Common.{◌≡◌, ◌<◌, ◌+◌, ℕ, Bool, false, ◌||◌, List, [], ◌∷◌, ◌++◌, Some, length, option_map, slice_get, suc, zero, refl, sym, ap, ◌∙◌, arith}
-use Rattle.std.proofs.lemmas.{Bool.cases_Bool, List.append-nil, List.append_assoc, List.Folds.list_any-append}
 use Rattle.vecmap_base.specs.{Items.add, Items.adds, Items.item_index, Items.only}
-use Rattle.vecmap_base.proofs.ItemsLemmas.{Additions.add_absent, Additions.add_present}
+use Rattle.vecmap_base.proofs.{ItemsLemmas.{Additions.add_absent, Additions.add_present}, ItemsLemmas.Members.members_of_add}
 pub use Rattle.vecmap_base.proofs.ItemsLemmas.Members.{is_member_adds}
-use Rattle.vecmap_base.proofs.ItemsLemmas.Members.{members_of_add}
 pub use Rattle.vecmap_base.proofs.ItemsLemmas.Changes.{is_member_clones}
 use Rattle.vecmap_laws.proofs.PositionLemmas.{position_append}
 

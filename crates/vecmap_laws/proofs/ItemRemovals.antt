@@ -1,6 +1,5 @@
 -- What a removal leaves.
-use Rattle.std.specs.Set.{is_member}
-use Rattle.std.specs.{Cmp.IsEquivalence, List.IsDistinct}
+use Rattle.std.specs.{Set.is_member, Cmp.IsEquivalence, List.IsDistinct}
 use Rattle.std.proofs.Common.{◌≡◌, Bool, false, List, refl}
 use Rattle.vecmap_base.specs.Items.{without_item}
 use Rattle.vecmap_base.proofs.{ItemsLemmas.Members.members_of_first, TakenLemmas.first_by_shift}

@@ -3,8 +3,7 @@
 use Rattle.std.proofs.Common.{Bool, true, false, IsTrue, List, None, Option, if◌then◌else◌, refl}
 use Rattle.std.specs.{Cmp.IsEquivalence, Option.option_eq}
 use Rattle.vecmap_laws.proofs.MapEquality.{equal_where_lookups_agree}
-use Rattle.vecmap_base.specs.Equality.{has_same_counts}
-use Rattle.vecmap_base.specs.Pairs.{HasDistinctKeys, lookup}
+use Rattle.vecmap_base.specs.{Equality.has_same_counts, Pairs.{HasDistinctKeys, lookup}}
 
 module _ {K V : Type 0} (eq : K → K → Bool) (same : V → V → Bool) (o : IsEquivalence eq) (p : IsEquivalence same) where
   -- Two maps whose lookups agree.

@@ -2,8 +2,7 @@
 -- collection, and IsMade holds of a collection that was created empty. The idea: a lookup after `put` finds the written
 -- collection at its key, and at other keys what it found before.
 use Rattle.std.specs.{Cmp.IsEquivalence, Option.UnwrapsOrElse, Option.option_map_or}
-use Rattle.std.proofs.Common.{arith, ◌≡◌, Bool, true, false, List, [], ap, subst, ◌∙◌}
-use Rattle.std.proofs.lemmas.Bool.{cases_Bool}
+use Rattle.std.proofs.{Common.{arith, ◌≡◌, Bool, true, false, List, [], ap, subst, ◌∙◌}, lemmas.Bool.cases_Bool}
 use Rattle.vecmap_base.specs.Pairs.{index_of, lookup, put}
 use Rattle.vecmap_map.specs.{Contents.Contents, Entry.entries_with, Entry.entry_key, Entry.entry_map, Entry.entry_index_of, Entry.entry_value}
 use Rattle.vecmap_map.specs.declared.entry.Entry.{Entry}

@@ -5,13 +5,10 @@ use Rattle.std.proofs.Common.{◌≡◌, ◌≤◌, ℕ, Bool, true, false, List
 use Rattle.std.proofs.lemmas.{List.drop_min, List.set-get_or, List.take_min, List.Edits.length-remove, List.Quantifiers.position-Some, Option.get_or_from_slice_get, Option.slice_get_within}
 use Rattle.std.specs.{Cmp.IsEquivalence, Map.set_value, Option.option_map_or}
 use Rattle.vecmap_base.proofs.PairsLemmas.{ByIndex.index_by_is, ByIndex.without_by_index, Puts.put_absent}
-use Rattle.vecmap_base.specs.Items.{swap_without}
-use Rattle.vecmap_base.specs.Pairs.{HasDistinctKeys, index_of, lookup, put, put_at, swap_without_key, without_key}
+use Rattle.vecmap_base.specs.{Items.swap_without, Pairs.{HasDistinctKeys, index_of, lookup, put, put_at, swap_without_key, without_key}}
 use Rattle.vecmap_map.specs.Contents.{Contents, with_value_of}
-use Rattle.vecmap_laws.proofs.AfterPuts.{index_of_without_key}
-use Rattle.vecmap_laws.proofs.Inserted.{absent_first, index_none, insert_where_removed, without_key_at}
-use Rattle.vecmap_laws.proofs.Puts.{put_at_absent, put_at_present}
-use Rattle.vecmap_laws.proofs.RemovalLemmas.{passing_at}
+use Rattle.vecmap_laws.proofs.{AfterPuts.index_of_without_key, Inserted.{absent_first, index_none, insert_where_removed, without_key_at}}
+use Rattle.vecmap_laws.proofs.{Puts.{put_at_absent, put_at_present}, RemovalLemmas.passing_at}
 
 -- An index past the end is the end.
 insert_min : {X : Type 0} (xs : List X) (i : ℕ) (x : X) → insert xs (min i (length xs)) x ≡ insert xs i x

@@ -1,7 +1,6 @@
 -- The first index of an item that passes a test, in a list of two parts, and in one item more.
-use Rattle.std.proofs.lemmas.Grind.{common_steps}
+use Rattle.std.proofs.{lemmas.Grind.common_steps, lemmas.{List.length-take-le, List.take_more}}
 use Rattle.std.proofs.Common.{arith, ◌≡◌, ◌<◌, ◌+◌, ℕ, Bool, List, [], ◌∷◌, ◌++◌, None, Some, get_or, if◌then◌else◌, length, option_map, position, take}
-use Rattle.std.proofs.lemmas.{List.length-take-le, List.take_more}
 use Rattle.std.specs.Option.{option_or}
 use Rattle.vecmap_base.proofs.IndexLemmas.{position_cons}
 pub use Rattle.vecmap_base.proofs.IndexLemmas.{is_some-map}

@@ -1,6 +1,5 @@
 -- What a query finds that matches exactly the keys that are equal to one of its matches.
-use Rattle.std.specs.declared.alloc.Global.{Global}
-use Rattle.std.specs.{Cmp.IsEquivalence, Cmp.on_equiv, Cmp.Lexicographic.nat_list_eq_equiv, Map.IsKeyTest}
+use Rattle.std.specs.{declared.alloc.Global.Global, Cmp.IsEquivalence, Cmp.on_equiv, Cmp.Lexicographic.nat_list_eq_equiv, Map.IsKeyTest}
 use Rattle.std.proofs.Common.{◌≡◌, ℕ, Bool, false, List, Some, String, IsTrue, bytes_eq, if◌then◌else◌, string_bytes, string_eq, ap, ◌∙◌}
 use Rattle.vecmap_base.specs.Pairs.{has_text, lookup, lookup_by, put}
 use Rattle.vecmap_base.proofs.PairsLemmas.Lookups.{lookup_by_put}

@@ -4,6 +4,5 @@ use Rattle.std.proofs.Common.{◌≡◌, Bool, true, List}
 use Rattle.vecmap_base.specs.Pairs.{lookup}
 
 module _ {K V : Type 0} (eq : K → K → Bool) (value : V → V → Bool) (o : IsEquivalence eq) (e : IsEquivalence value) where
-
   abbrev SameLookups : List (K × V) → List (K × V) → Type 0
   SameLookups a b = (q : K) → option_eq value (lookup eq a q) (lookup eq b q) ≡ true

@@ -1,20 +1,15 @@
 -- What a binary search of a map says of the index of its key.
 use Rattle.std.proofs.Common.{nat_cmp, ◌≡◌, ◌≤◌, ℕ, Bool, true, List, [], ◌∷◌, Err, None, Ok, Result, ap, arith, is_some, insert, length, refl, slice_index_or, sym, subst, ◌∙◌}
 use Rattle.std.proofs.lemmas.{List.Folds.list_any_at}
-use Rattle.std.specs.Cmp.{IsTotalOrder, nat_cmp_total, unsigned_ties}
-use Rattle.std.specs.Prelude.{nat_eq}
+use Rattle.std.specs.{Cmp.{IsTotalOrder, nat_cmp_total, unsigned_ties}, Prelude.nat_eq, declared.cmp.Ordering.Ordering}
 use Rattle.std.specs.List.Sorted.{IsBinarySearchResult, IsNonDecreasingBy, IsPartitionPoint, IsSearchInRange, IsSortedByKey}
 use Rattle.std.specs.{Ordering.is_eq, Ordering.ordering_index, Ordering.ordering_reverse, Result.is_ok}
-use Rattle.std.specs.declared.cmp.Ordering.{Ordering}
 use Rattle.std.specs.declared.cmp.Ordering.TheVariants.{Equal, Greater, Less}
-use Rattle.vecmap_base.proofs.IndexLemmas.{is_some_position, position_none}
-use Rattle.vecmap_base.proofs.PairsLemmas.ByIndex.{index_by_is}
-use Rattle.vecmap_laws.proofs.Puts.{put_at_absent}
+use Rattle.vecmap_base.proofs.{IndexLemmas.{is_some_position, position_none}, PairsLemmas.ByIndex.index_by_is}
+use Rattle.vecmap_laws.proofs.{Puts.put_at_absent, SortedLemmas.{comparisons_rise, none_at_partition, sorted_insert}}
 use Rattle.vecmap_base.specs.Pairs.{index_of, put_at}
-use Rattle.vecmap_laws.proofs.SortedLemmas.{comparisons_rise, none_at_partition, sorted_insert}
 
 module _ {K V : Type 0} (eq : K → K → Bool) (cmp : K → K → Ordering) (o : IsTotalOrder cmp) (matches : (x y : K) → eq x y ≡ is_eq (cmp x y)) where
-
   pub absent_index : (l : List (K × V)) → IsSortedByKey (λ p. p.0) cmp l → (k : K) (i : ℕ) → (IsNonDecreasingBy (λ p. ordering_index (cmp p.0 k)) l → IsPartitionPoint (λ p. cmp p.0 k ≡ Less) (λ p. cmp p.0 k ≡ Greater) l i) → index_of eq l k ≡ None
   absent_index l sorted k i ends = index_by_is (eq k) l ∙ position_none (λ p. eq k p.0) l (none_at_partition (λ p. p.0) cmp o eq matches k l i (ends (comparisons_rise (λ p. p.0) cmp o k l sorted)))
 

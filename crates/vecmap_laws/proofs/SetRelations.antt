@@ -1,15 +1,9 @@
 -- The elements that are in both of two lists, and those that are in only one of them.
-use Rattle.std.specs.Prelude.{◌≡◌, ◌+◌, Bool, true, ◌||◌, not, List, ◌++◌, length, refl}
-use Rattle.std.specs.Cmp.{IsEquivalence}
-use Rattle.std.specs.List.{IsDistinct}
+use Rattle.std.specs.{Prelude.{◌≡◌, ◌+◌, Bool, true, ◌||◌, not, List, ◌++◌, length, refl}, Cmp.IsEquivalence, List.IsDistinct}
 use Rattle.std.specs.Set.{is_member}
-use Rattle.std.proofs.Common.{sym, ◌∙◌, arith, length-append}
-use Rattle.std.proofs.Math.Bool.{and_comm, or_comm}
-use Rattle.std.proofs.lemmas.List.Filters.{length-filter_both}
-use Rattle.std.proofs.lemmas.List.Folds.{list_any-append}
-use Rattle.std.proofs.lemmas.Map.Made.{length-from_same_keys}
-use Rattle.vecmap_base.specs.Equality.{has_same_items}
-use Rattle.vecmap_base.specs.Items.{both, only}
+use Rattle.std.proofs.{Common.{sym, ◌∙◌, arith, length-append}, Math.Bool.{and_comm, or_comm}, lemmas.List.Filters.length-filter_both}
+use Rattle.std.proofs.{lemmas.List.Folds.list_any-append, lemmas.Map.Made.length-from_same_keys}
+use Rattle.vecmap_base.specs.{Equality.has_same_items, Items.{both, only}}
 pub use Rattle.vecmap_base.proofs.EqualityLemmas.Sets.{same_items}
 pub use Rattle.vecmap_base.proofs.EqualityLemmas.Relations.{is_member_both, both_empty_turned, distinct_both, distinct_only, distinct_union, distinct_symmetric_difference}
 use Rattle.vecmap_set.proofs.OperatorLemmas.{is_member_union as member_of_union}

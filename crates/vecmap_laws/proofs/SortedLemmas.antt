@@ -3,11 +3,8 @@
 use Rattle.std.proofs.Common.{arith, ◌≡◌, ◌+◌, ◌-◌, ◌<◌, ◌≤◌, ℕ, Bool, true, List, ap, get_or, inl, inr, insert, length, nat_lt, ◌∙◌}
 use Rattle.std.proofs.lemmas.{Bool.cases_Bool, Bool.ltb-false, Bool.ltb-true}
 use Rattle.std.proofs.lemmas.List.Edits.{get_or-insert_above, get_or-insert_at, get_or-insert_below, length-insert}
-use Rattle.std.specs.{Cmp.IsStrictWeakOrder, Cmp.IsTotalOrder}
-use Rattle.std.specs.List.Sorted.{IsPartitionPoint, IsSortedByKey, ties}
-use Rattle.std.specs.Ordering.{is_gt, is_lt}
-use Rattle.std.specs.declared.cmp.Ordering.{Ordering}
-use Rattle.std.specs.declared.cmp.Ordering.TheVariants.{Greater, Less}
+use Rattle.std.specs.{Cmp.IsStrictWeakOrder, Cmp.IsTotalOrder, List.Sorted.{IsPartitionPoint, IsSortedByKey, ties}, Ordering.{is_gt, is_lt}}
+use Rattle.std.specs.{declared.cmp.Ordering.Ordering, declared.cmp.Ordering.TheVariants.{Greater, Less}}
 use Rattle.vecmap_base.proofs.ItemsLemmas.Sorted.{less, less_is_greater}
 pub use Rattle.vecmap_base.proofs.ItemsLemmas.Sorted.{comparisons_rise, none_at_partition}
 
@@ -53,6 +50,5 @@ module _ {X K : Type 0} (key : X → K) (cmp : K → K → Ordering) (o : IsTota
 -- A stable sort of a sorted list. The idea: the first items of two sorted lists tie if the lists agree on what ties
 -- with either, so they are the same, and the lists agree on the rest.
 module _ {X : Type 0} (lt : X → X → Bool) (w : IsStrictWeakOrder lt) where
-
   own : (x : X) → ties lt x x ≡ true
   own x = grind (arith)

@@ -1,11 +1,9 @@
 -- What texts find after an insertion of a text of which the first value wins.
 use Rattle.std.proofs.Common.{rules, ◌≡◌, ℕ, true, List, None, Some, String, ap, bytes_eq, if◌then◌else◌, string_bytes, string_eq, sym, ◌∙◌}
 use Rattle.std.proofs.lemmas.Slice.Eq.{bytes_eq-Decides}
-use Rattle.std.specs.{Cmp.Lexicographic.nat_list_eq_equiv, Option.option_or}
-use Rattle.std.specs.declared.alloc.Global.{Global}
+use Rattle.std.specs.{Cmp.Lexicographic.nat_list_eq_equiv, Option.option_or, declared.alloc.Global.Global}
 use Rattle.vecmap_base.specs.Pairs.{has_text, lookup_by, put}
-use Rattle.vecmap_laws.proofs.AfterPuts.{option_or_none}
-use Rattle.vecmap_laws.proofs.FirstValue.{lookup_put_new_query, put_new_not_found}
+use Rattle.vecmap_laws.proofs.{AfterPuts.option_or_none, FirstValue.{lookup_put_new_query, put_new_not_found}}
 use Rattle.vecmap_laws.proofs.Queries.{lookup_by_query, same_text, string_equality, text_respects}
 
 -- Texts whose bytes are equal are the same.

@@ -3,9 +3,8 @@
 use Rattle.std.proofs.Common.{◌≡◌, Bool, true, false, ◌&&◌, IsTrue, List, [], Some, ap, if◌then◌else◌, inl, inr, refl, sym, ◌∙◌}
 use Rattle.std.proofs.lemmas.Bool.{cases_Bool}
 use Rattle.std.specs.{Cmp.IsEquivalence, Map.IsKeyTest, Option.option_map_or}
-use Rattle.vecmap_laws.proofs.Queries.{lookup_by_query, lookup_put_other_query, lookup_put_query}
+use Rattle.vecmap_laws.proofs.{Queries.{lookup_by_query, lookup_put_other_query, lookup_put_query}, RemovalLemmas.query_finds_same}
 use Rattle.vecmap_base.specs.Pairs.{lookup_by, put}
-use Rattle.vecmap_laws.proofs.RemovalLemmas.{query_finds_same}
 use Rattle.vecmap_laws.specs.Nested.{inner_entries, inner_entries_by}
 use Rattle.vecmap_map.specs.Contents.{Contents}
 

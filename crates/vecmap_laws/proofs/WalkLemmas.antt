@@ -1,7 +1,6 @@
 -- Iterators that are seen as the list of what they have left: what calls of `next` and `next_back` return.
 use Rattle.std.proofs.Common.{◌≡◌, ◌-◌, List, [], ◌∷◌, ◌++◌, Option, None, Some, ap, sym, drop, take, length, length-append, map, arith, refl}
-use Rattle.std.specs.{Iterator.YieldsFirstBy, Iterator.YieldsLastBy, List.slice_get}
-use Rattle.std.specs.Option.{option_map}
+use Rattle.std.specs.{Iterator.YieldsFirstBy, Iterator.YieldsLastBy, List.slice_get, Option.option_map}
 use Rattle.vecmap_laws.specs.Pulls.{End, Pulls, PullsBy, back, front}
 pub use Rattle.vecmap_base.proofs.IndexLemmas.{slice_get_last}
 

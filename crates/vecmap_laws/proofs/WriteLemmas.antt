@@ -5,11 +5,9 @@ use Rattle.std.proofs.Common.{arith, ◌≡◌, ℕ, Bool, List, [], ◌∷◌, 
 use Rattle.vecmap_base.specs.Pairs.{index_of, put, with_value, has_text, index_by, lookup, lookup_by}
 use Rattle.vecmap_map.specs.Contents.{Contents, with_entries, with_value_of, with_value_by}
 use Rattle.std.specs.{Cmp.IsEquivalence, Cmp.Lexicographic.nat_list_eq_equiv, declared.alloc.Global.Global, Map.IsKeyTest, Map.keys_of, Map.set_value, Option.option_map_or}
-use Rattle.std.proofs.lemmas.{Map.keys-set_value}
+use Rattle.std.proofs.{lemmas.{Map.keys-set_value}, lemmas.Map.Steps.set_value_same}
 use Rattle.vecmap_base.proofs.PairsLemmas.ByIndex.{put_by_index, set_value_by_index}
-use Rattle.vecmap_laws.proofs.ItemQueries.{tells_as}
-use Rattle.vecmap_laws.proofs.Queries.{string_equality, text_respects}
-use Rattle.std.proofs.lemmas.Map.Steps.{set_value_same}
+use Rattle.vecmap_laws.proofs.{ItemQueries.tells_as, Queries.{string_equality, text_respects}}
 use Rattle.vecmap_base.proofs.PairsLemmas.{ByIndex.is_some_lookup_by, Updates.updates_write}
 
 module _ {K V : Type 0} (eq : K → K → Bool) where

@@ -1,8 +1,5 @@
 -- The lookups of two maps agree. `key` and `value` are the `==` of keys and values.
-use Rattle.std.specs.Prelude.{Bool, ◌&&◌, List}
-use Rattle.std.specs.List.{list_all}
-use Rattle.std.specs.Map.{keys_of}
-use Rattle.std.specs.Option.{option_eq}
+use Rattle.std.specs.{Prelude.{Bool, ◌&&◌, List}, List.list_all, Map.keys_of, Option.option_eq}
 use Rattle.vecmap_base.specs.Pairs.{lookup}
 
 module _ {K V : Type 0} (key : K → K → Bool) (value : V → V → Bool) where

@@ -1,9 +1,7 @@
 -- What laws say of unions, intersections and differences. `eq` is the `==` of the elements. A list such as `only` or
 -- `union_of` is computed with it from the elements of two sets.
-use Rattle.std.specs.Prelude.{◌≡◌, ◌+◌, Bool, IsTrue, List, length}
-use Rattle.std.specs.List.{IsDistinct}
+use Rattle.std.specs.{Prelude.{◌≡◌, ◌+◌, Bool, IsTrue, List, length}, List.IsDistinct, Set.is_member}
 use Rattle.vecmap_base.specs.Equality.{has_same_items}
-use Rattle.std.specs.Set.{is_member}
 use Rattle.vecmap_set.specs.Lazy.{filtered_of_shorter, filtered_rest, longer_first, union_rest}
 
 module _ {T : Type 0} (eq : T → T → Bool) where

@@ -1,6 +1,5 @@
 -- Insertions that combine the value of a key with the value that it had. `eq` is the `==` of keys.
-use Rattle.std.specs.Prelude.{Bool, List, None, Option, Some}
-use Rattle.std.specs.Option.{option_map_or}
+use Rattle.std.specs.{Prelude.{Bool, List, None, Option, Some}, Option.option_map_or}
 use Rattle.vecmap_base.specs.Pairs.{lookup, put}
 
 -- Example: `combine min (Some 3) (Some 2) ≡ Some 2`; `combine min None (Some 2) ≡ Some 2`.

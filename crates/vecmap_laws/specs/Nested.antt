@@ -1,6 +1,5 @@
 -- Maps whose values are maps.
-use Rattle.std.specs.Prelude.{◌≡◌, Bool, List, []}
-use Rattle.std.specs.Option.{option_map_or}
+use Rattle.std.specs.{Prelude.{◌≡◌, Bool, List, []}, Option.option_map_or}
 use Rattle.vecmap_base.specs.Pairs.{lookup_by}
 use Rattle.vecmap_map.specs.Contents.{Contents}
 

@@ -1,6 +1,5 @@
 -- What removals of many keys leave. `eq` is the `==` of keys.
-use Rattle.std.specs.Prelude.{ℕ, ◌-◌, None, Option, Some, if◌then◌else◌, nat_lt, option_map}
-use Rattle.std.specs.Option.{option_and_then}
+use Rattle.std.specs.{Prelude.{ℕ, ◌-◌, None, Option, Some, if◌then◌else◌, nat_lt, option_map}, Option.option_and_then}
 
 -- Example: `below 2 (Some 1) ≡ Some 1`; `below 2 (Some 3) ≡ None`.
 -- The index `found`, if it is below `n`.

@@ -1,11 +1,7 @@
 //! Laws of lists, which are laws of maps and of sets.
-ghost use Rattle.std.specs.Cmp.{IsEquivalence, IsTotalOrder};
-ghost use Rattle.std.specs.Ordering.{is_eq};
+ghost use Rattle.std.specs.{Cmp.{IsEquivalence, IsTotalOrder}, Ordering.is_eq, List.IsDistinct, Map.{IsKeyTest, keys_of}};
 ghost use Rattle.std.specs.Prelude.{◌≡◌, ◌≤◌, ℕ, List, String, bytes_eq, false, length, string_bytes, string_eq, true};
-ghost use Rattle.std.specs.List.{IsDistinct};
-ghost use Rattle.std.specs.Map.{IsKeyTest, keys_of};
-ghost use Rattle.vecmap_base.specs.Pairs.{HasDistinctKeys, has_text};
-ghost use Rattle.vecmap_base.specs.Comparisons.{comparisons, cost};
+ghost use Rattle.vecmap_base.specs.{Pairs.{HasDistinctKeys, has_text}, Comparisons.{comparisons, cost}};
 ghost use Rattle.std.specs.declared.alloc.Global.{Global};
 
 /// Bounds the number of comparisons that a removal of duplicates makes.

@@ -28,4 +28,6 @@ pub use removals::{
     appending_undoes_splitting, moves_keep_lookups, removals_are_forgotten,
     removals_by_index_are_undone, removals_shorten,
 };
-pub use writes::{writes_are_insertions, writes_by_queries_are_insertions, writes_leave_other_keys};
+pub use writes::{
+    writes_are_insertions, writes_by_queries_are_insertions, writes_leave_other_keys,
+};

@@ -2,8 +2,7 @@
 use Rattle.std.specs.{Cmp.IsEquivalence, Option.option_or}
 use Rattle.std.proofs.Common.{◌≡◌, ◌∙◌, Bool, List, [], None, Option, Some, refl}
 use Rattle.vecmap_base.specs.Pairs.{HasDistinctKeys, lookup, puts}
-use Rattle.vecmap_base.proofs.DistinctLemmas.Absent.{distinct_none}
-use Rattle.vecmap_base.proofs.PairsLemmas.Parts.{joins_of_puts}
+use Rattle.vecmap_base.proofs.{DistinctLemmas.Absent.distinct_none, PairsLemmas.Parts.joins_of_puts}
 
 pub or_none : {X : Type 0} (a : Option X) → option_or a None ≡ a
 or_none None = refl

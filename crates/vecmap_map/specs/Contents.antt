@@ -1,11 +1,8 @@
 -- What a contract sees of a `VecMap`, and what calls say of its capacity. In the examples, `map_of l n` is the map
 -- with the pairs `l` and the capacity `n`, and `done` and `failed` are results of calls.
 use Rattle.std.specs.Prelude.{◌≡◌, ◌++◌, ◌∷◌, [], ◌+◌, ◌<◌, ◌≤◌, ℕ, Bool, IsOk, IsSome, List, None, OnErr, OnOk, Option, Result, Some, if◌then◌else◌, is_some, length, slice_get, unwrap_or}
-use Rattle.std.specs.List.{refill}
-use Rattle.std.specs.Map.{set_value}
-use Rattle.std.specs.Option.{option_map_or}
-use Rattle.vecmap_base.specs.declared.refused.Refused.{Refused}
-use Rattle.vecmap_base.specs.Pairs.{index_by, index_of, lookup_by, with_pair, with_value}
+use Rattle.std.specs.{List.refill, Map.set_value, Option.option_map_or}
+use Rattle.vecmap_base.specs.{declared.refused.Refused.Refused, Pairs.{index_by, index_of, lookup_by, with_pair, with_value}}
 
 -- Example: `[(1,a)]` with capacity 4.
 -- The pairs from the first to the last, and how many of them fit before the vector grows.

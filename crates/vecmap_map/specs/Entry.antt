@@ -1,17 +1,11 @@
 -- What contracts see of an entry: the map, the key that was passed to `entry`, and the index of that key. In the
 -- examples, `r` is a reference to a map. `occupied r k p` is the entry of the key `k` in a map of the pair `p`, and
 -- `vacant r k l` in a map of the pairs `l`.
-use Rattle.std.specs.Prelude.{◌≡◌, ℕ, List, [], ◌∷◌, ◌++◌, Option, None, Some, length, remove, slice_get, unwrap_or}
-use Rattle.std.specs.Borrow.{MutBor}
+use Rattle.std.specs.{Prelude.{◌≡◌, ℕ, List, [], ◌∷◌, ◌++◌, Option, None, Some, length, remove, slice_get, unwrap_or}, Borrow.MutBor}
 use Rattle.std.specs.Option.{option_and_then, option_map_or}
-use Rattle.vecmap_base.specs.Items.{swap_without}
-use Rattle.vecmap_base.specs.Pairs.{value_at, with_value}
-use Rattle.vecmap_base.specs.declared.refused.Refused.{Refused}
-use Rattle.vecmap_map.specs.Contents.{Contents, IsFull, KeepsRoomAt, with_value_at}
-use Rattle.vecmap_map.specs.EntryWithin.{still_within}
-use Rattle.vecmap_map.specs.declared.entry.Entry.{Entry}
-use Rattle.vecmap_map.specs.declared.entry.Entry.TheVariants.{Occupied, Vacant}
-use Rattle.vecmap_map.specs.declared.entry.occupied.OccupiedEntry.{OccupiedEntry}
+use Rattle.vecmap_base.specs.{Items.swap_without, Pairs.{value_at, with_value}, declared.refused.Refused.Refused}
+use Rattle.vecmap_map.specs.{Contents.{Contents, IsFull, KeepsRoomAt, with_value_at}, EntryWithin.still_within, declared.entry.Entry.Entry}
+use Rattle.vecmap_map.specs.{declared.entry.Entry.TheVariants.{Occupied, Vacant}, declared.entry.occupied.OccupiedEntry.OccupiedEntry}
 
 module _ {K V : Type 0} where
   -- The reference to the map.

@@ -1,13 +1,9 @@
 -- What a map, or an entry of it, is once the reference or entry that a call of an entry returns has ended.
-use Rattle.std.specs.Prelude.{◌≡◌, [], Result}
-use Rattle.std.specs.Borrow.{RattleType, Fml, MutBor, LendsSoOk, RestsIfErr, follows}
+use Rattle.std.specs.{Prelude.{◌≡◌, [], Result}, Borrow.{RattleType, Fml, MutBor, LendsSoOk, RestsIfErr, follows}}
 use mir.Syntax.{named}
-use Rattle.vecmap_map.specs.Contents.{KeepsRoomAt, RefusesAt}
-use Rattle.vecmap_map.specs.Entry.{entry_map, entry_index_of, entry_ref, entries_with, occupied_with}
-use Rattle.vecmap_map.specs.Lends.{lends_value_at}
-use Rattle.vecmap_map.specs.contracts.VecMap.{the_row}
+use Rattle.vecmap_map.specs.{Contents.{KeepsRoomAt, RefusesAt}, Entry.{entry_map, entry_index_of, entry_ref, entries_with, occupied_with}}
+use Rattle.vecmap_map.specs.{Lends.lends_value_at, contracts.VecMap.the_row, declared.entry.Entry.Entry}
 use Rattle.vecmap_map.specs.contracts.entry.occupied.OccupiedEntry as occupied
-use Rattle.vecmap_map.specs.declared.entry.Entry.{Entry}
 use Rattle.vecmap_map.specs.declared.entry.occupied.OccupiedEntry.{OccupiedEntry}
 
 module _ (K V : RattleType) where

@@ -1,10 +1,8 @@
 -- After a write of a value, the index of an entry is still below the length. An entry holds this fact, so the
 -- definition of an entry with another value needs its proof. It is here because a file of specs/ may not name the
 -- proofs of its crate.
-use Rattle.std.specs.Prelude.{◌≡◌, ℕ, ◌<◌, List, Option, None, Some, length, refl, slice_get, slice_set}
-use Rattle.std.specs.Option.{option_map_or}
-use Rattle.std.proofs.Common.{subst, sym}
-use Rattle.std.proofs.lemmas.List.{length-set}
+use Rattle.std.specs.{Prelude.{◌≡◌, ℕ, ◌<◌, List, Option, None, Some, length, refl, slice_get, slice_set}, Option.option_map_or}
+use Rattle.std.proofs.{Common.{subst, sym}, lemmas.List.length-set}
 use Rattle.vecmap_base.specs.Pairs.{with_value}
 use Rattle.vecmap_map.specs.declared.entry.occupied.OccupiedEntry.{OccupiedEntry}
 

@@ -1,7 +1,5 @@
 -- What a `VecMap` is once a mutable reference into it has ended.
-use Rattle.std.specs.Prelude.{ℕ, Bool, List, [], ◌∷◌}
-use Rattle.std.specs.declared.option.Option.{Option}
-use Rattle.std.specs.declared.option.Option.TheVariants.{None, Some}
+use Rattle.std.specs.{Prelude.{ℕ, Bool, List, [], ◌∷◌}, declared.option.Option.Option, declared.option.Option.TheVariants.{None, Some}}
 use Rattle.std.specs.Borrow.{RattleType, Fml, GName, Array, Bor, MutBor, Lends, LendsIf, LendsBoth, LendsBothIf, follows, follows_if, follows_both_if}
 use denote.Struct.Tuple.{Tuple}
 use mathlib.Core.Option as maybe

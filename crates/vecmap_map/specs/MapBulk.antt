@@ -1,10 +1,7 @@
 -- What calls that insert many pairs leave.
-use Rattle.std.specs.Prelude.{◌≡◌, ◌<◌, ◌≤◌, ◌⊎◌, Bool, List, OnErr, Option, Result, length, map}
-use Rattle.std.specs.Iterator.{Count}
+use Rattle.std.specs.{Prelude.{◌≡◌, ◌<◌, ◌≤◌, ◌⊎◌, Bool, List, OnErr, Option, Result, length, map}, Iterator.Count}
 use Rattle.std.specs.declared.clone.Clone as clone
-use Rattle.vecmap_base.specs.Bulk.{HasRoomForAll, HasRoomForHalf, StopsAt}
-use Rattle.vecmap_base.specs.Clones.{ArePairClones}
-use Rattle.vecmap_base.specs.Pairs.{puts}
+use Rattle.vecmap_base.specs.{Bulk.{HasRoomForAll, HasRoomForHalf, StopsAt}, Clones.ArePairClones, Pairs.puts}
 use Rattle.vecmap_map.specs.Contents.{Contents, HasRoom, Refuses}
 
 module _ {K V : Type 0} where

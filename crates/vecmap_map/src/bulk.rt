@@ -1,12 +1,8 @@
 //! Creation of a map from many pairs, and insertion of many pairs.
 ghost use Rattle.std.specs.Prelude.{◌≡◌, ◌<◌, ◌+◌, ◌≤◌, ◌/◌, IfOk, IsOk, List, None, OnErr, OnOk, [], if◌then◌else◌, length};
-ghost use Rattle.std.specs.Iterator.{Drains, ExtendsWithItems, IsFiniteIterable};
-ghost use Rattle.std.specs.Option.{option_or};
-ghost use Rattle.std.specs.Map.Iter.{deref, deref_pair};
-ghost use Rattle.vecmap_base.specs.Bulk.{HasRoomForAll, HoldsOfEach, YieldsAll};
-ghost use Rattle.vecmap_base.specs.Clones.{ArePairClones, ClonesAreSame, ClonesSucceed};
-ghost use Rattle.vecmap_base.specs.Lookups.{Joins};
-ghost use Rattle.vecmap_base.specs.Pairs.{HasDistinctKeys, lookup, put, puts};
+ghost use Rattle.std.specs.{Iterator.{Drains, ExtendsWithItems, IsFiniteIterable}, Option.option_or, Map.Iter.{deref, deref_pair}};
+ghost use Rattle.vecmap_base.specs.{Bulk.{HasRoomForAll, HoldsOfEach, YieldsAll}, Clones.{ArePairClones, ClonesAreSame, ClonesSucceed}};
+ghost use Rattle.vecmap_base.specs.{Lookups.Joins, Pairs.{HasDistinctKeys, lookup, put, puts}};
 ghost use Rattle.vecmap_map.specs.Contents.{HasRoom, KeepsRoomAt, Refuses, with_entries};
 ghost use Rattle.vecmap_map.specs.MapBulk.{Extends, Puts, PutsClones, RefusesAfter, RefusesClonesAfter};
 

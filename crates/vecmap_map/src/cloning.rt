@@ -1,9 +1,6 @@
 //! Clones of a map, by a call and by the trait `Clone`, for generic code, derives and maps in maps.
-ghost use Rattle.std.specs.Cmp.{IsEquivalence};
-ghost use Rattle.std.specs.Map.{IsKeyTest};
-ghost use Rattle.std.specs.Prelude.{◌≡◌, Bool, IfOk, true};
-ghost use Rattle.vecmap_base.specs.Clones.{ArePairClones, ClonesAreSame};
-ghost use Rattle.vecmap_base.specs.Pairs.{lookup_by};
+ghost use Rattle.std.specs.{Cmp.IsEquivalence, Map.IsKeyTest, Prelude.{◌≡◌, Bool, IfOk, true}};
+ghost use Rattle.vecmap_base.specs.{Clones.{ArePairClones, ClonesAreSame}, Pairs.lookup_by};
 
 use crate::VecMap;
 use std::alloc::AllocError;

@@ -1,9 +1,6 @@
 //! Conversions of a vector into a map, which keep the vector, and of an array; clones of the pairs in a new vector.
-ghost use Rattle.std.specs.Prelude.{◌≡◌, ◌<◌, ◌≤◌, IfOk, [], length, vec_capacity};
-ghost use Rattle.std.specs.Map.{keys_of};
-ghost use Rattle.vecmap_base.specs.Clones.{ArePairClones};
-ghost use Rattle.vecmap_base.specs.Pairs.{HasDistinctKeys, lookup, puts};
-ghost use Rattle.vecmap_base.specs.Comparisons.{comparisons};
+ghost use Rattle.std.specs.{Prelude.{◌≡◌, ◌<◌, ◌≤◌, IfOk, [], length, vec_capacity}, Map.keys_of};
+ghost use Rattle.vecmap_base.specs.{Clones.ArePairClones, Pairs.{HasDistinctKeys, lookup, puts}, Comparisons.comparisons};
 
 use crate::VecMap;
 use std::alloc::{AllocError, Global};

@@ -2,12 +2,9 @@
 //!
 //! The iterator holds a reference to the map and no vector. So the proof of a caller knows what the map has once the
 //! drain is dropped.
-ghost use Rattle.std.specs.Prelude.{◌≡◌, ◌<◌, ◌≤◌, ◌^◌, length, slice_range};
-ghost use Rattle.std.specs.Iterator.{at_most};
+ghost use Rattle.std.specs.{Prelude.{◌≡◌, ◌<◌, ◌≤◌, ◌^◌, length, slice_range}, Iterator.at_most, List.remove_range};
 ghost use Rattle.std.specs.Iterator.Runs.{YieldsInOrder, YieldsInReverse};
-ghost use Rattle.std.specs.List.{remove_range};
-ghost use Rattle.vecmap_base.specs.Drain.{KeepsAlong};
-ghost use Rattle.vecmap_base.specs.Iterators.{HintsExactly};
+ghost use Rattle.vecmap_base.specs.{Drain.KeepsAlong, Iterators.HintsExactly};
 ghost use Rattle.vecmap_base.specs.Ranges.{AreEndsWithin, IsRangeWithin, items_between, without_between};
 ghost use Rattle.vecmap_map.specs.Drain.{DrainKeeps, DrainNext, DrainNextBack, drain_capacity, drain_kept, drain_lender, drain_rest};
 

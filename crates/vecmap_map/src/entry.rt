@@ -3,13 +3,8 @@
 //! An entry holds the map, the key that was passed to `entry`, and the index of that key. A clause `writes_back` says
 //! what the map is once the returned reference has ended.
 ghost use Rattle.std.specs.Prelude.{◌≡◌, ◌<◌, ◌⊎◌, Err, IfErr, IfOk, IfSome, None, Ok, OnErr, Some, length, unwrap_or};
-ghost use Rattle.std.specs.Borrow.{Bor, MutBor, sem};
-ghost use Rattle.std.specs.Fn.{FnOnceReturnsAt};
-ghost use Rattle.std.specs.Map.Calls.{ModifiesValue};
-ghost use Rattle.std.specs.Option.{UnwrapsOrElse, option_map_or};
-ghost use Rattle.vecmap_base.specs.Insertions.{AddsKey};
-ghost use Rattle.vecmap_base.specs.Pairs.{index_of, lookup};
-ghost use Rattle.vecmap_base.specs.Removals.{RemovesBy, SwapRemovesBy};
+ghost use Rattle.std.specs.{Borrow.{Bor, MutBor, sem}, Fn.FnOnceReturnsAt, Map.Calls.ModifiesValue, Option.{UnwrapsOrElse, option_map_or}};
+ghost use Rattle.vecmap_base.specs.{Insertions.AddsKey, Pairs.{index_of, lookup}, Removals.{RemovesBy, SwapRemovesBy}};
 ghost use Rattle.vecmap_map.specs.Contents.{IsFull};
 
 mod occupied;

@@ -2,13 +2,9 @@
 //!
 //! Each impl calls the inherent function that it names, and promises the same if an allocation fails. Generic code
 //! knows only what the trait promises: that the items up to some point were inserted.
-ghost use Rattle.std.specs.Iterator.{ExtendsWithItems, IsFiniteIterable};
-ghost use Rattle.std.specs.Map.Iter.{deref, deref_pair};
-ghost use Rattle.std.specs.Prelude.{IsOk};
-ghost use Rattle.vecmap_base.specs.Bulk.{HasRoomForAll, HoldsOfEach};
-ghost use Rattle.vecmap_base.specs.Clones.{ClonesSucceed};
-ghost use Rattle.vecmap_map.specs.Contents.{HasRoom};
-ghost use Rattle.vecmap_map.specs.MapBulk.{Extends, Grows, Puts, PutsClones, RefusesAfter, RefusesClonesAfter};
+ghost use Rattle.std.specs.{Iterator.{ExtendsWithItems, IsFiniteIterable}, Map.Iter.{deref, deref_pair}, Prelude.IsOk};
+ghost use Rattle.vecmap_base.specs.{Bulk.{HasRoomForAll, HoldsOfEach}, Clones.ClonesSucceed};
+ghost use Rattle.vecmap_map.specs.{Contents.HasRoom, MapBulk.{Extends, Grows, Puts, PutsClones, RefusesAfter, RefusesClonesAfter}};
 
 use crate::VecMap;
 use std::alloc::AllocError;

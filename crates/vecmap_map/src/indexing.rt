@@ -1,9 +1,6 @@
 //! `map[index]` and `map[&key]`: the value at an index, and the value of a key.
-ghost use Rattle.std.specs.Prelude.{◌≡◌, ◌<◌, IsSome, Some, bytes_eq, length, string_eq};
-ghost use Rattle.std.specs.Borrow.{sem};
-ghost use Rattle.std.specs.Map.{set_value};
-ghost use Rattle.vecmap_base.specs.Indices.{KeepsIndices};
-ghost use Rattle.vecmap_base.specs.Lookups.{Updates, UpdatesAt, UpdatesBy};
+ghost use Rattle.std.specs.{Prelude.{◌≡◌, ◌<◌, IsSome, Some, bytes_eq, length, string_eq}, Borrow.sem, Map.set_value};
+ghost use Rattle.vecmap_base.specs.{Indices.KeepsIndices, Lookups.{Updates, UpdatesAt, UpdatesBy}};
 ghost use Rattle.vecmap_base.specs.Pairs.{has_text, index_by, lookup, lookup_by, value_at, with_value};
 
 use crate::VecMap;

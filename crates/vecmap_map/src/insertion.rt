@@ -1,10 +1,7 @@
 //! Insertion of one pair.
 ghost use Rattle.std.specs.Prelude.{◌≡◌, ◌++◌, ◌∷◌, ◌<◌, ◌≤◌, ◌⊎◌, Err, IfErr, IfOk, IfSome, IsSome, IsTrue, None, Ok, OnErr, OnOk, Some, [], length};
-ghost use Rattle.vecmap_base.specs.Indices.{HasMatchAt};
-ghost use Rattle.vecmap_base.specs.Insertions.{AddsKey, InsertsAt, PutsKey};
-ghost use Rattle.vecmap_base.specs.Lookups.{UpdatesBy};
+ghost use Rattle.vecmap_base.specs.{Indices.HasMatchAt, Insertions.{AddsKey, InsertsAt, PutsKey}, Lookups.UpdatesBy, Removals.FindsPair};
 ghost use Rattle.vecmap_base.specs.Pairs.{index_by, index_or_length, lookup, lookup_by, lookup_indexed, with_value};
-ghost use Rattle.vecmap_base.specs.Removals.{FindsPair};
 ghost use Rattle.vecmap_map.specs.Contents.{Appends, FailsToAppend, FindsOrAppends, HasRoom, KeepsRoom, KeepsRoomAt, Refuses, RefusesAt};
 
 use crate::VecMap;

@@ -3,8 +3,7 @@
 //! A contract sees an iterator as the list of its remaining items, and a mutable one by definitions such as
 //! `iter_mut_rest`. Each iterator knows its exact length and yields items from both ends. After its last item it
 //! returns only `None`. Creating one takes constant time and does not allocate.
-ghost use Rattle.std.specs.Borrow.{sem};
-ghost use Rattle.std.specs.Map.{keys_of, values_of};
+ghost use Rattle.std.specs.{Borrow.sem, Map.{keys_of, values_of}};
 ghost use Rattle.std.specs.Map.Iter.{ShowsValuesInOrder, ShowsValuesInReverse, deref, deref_pair, deref_pair_mut};
 ghost use Rattle.vecmap_base.specs.Iterators.{GivesAll, ShowsAll, ShowsAllOf, deref_mut, iter_mut_name, iter_mut_rest, values_mut_name, values_mut_rest};
 ghost use Rattle.vecmap_map.specs.Lends.{lends_pairs};

@@ -1,11 +1,7 @@
 //! Calls that return a mutable reference to a value.
-ghost use Rattle.std.specs.Prelude.{◌≡◌, ◌-◌, ◌<◌, ◌↔◌, IfSome, IsSome, Some, length, option_map, slice_get};
-ghost use Rattle.std.specs.Borrow.{sem};
-ghost use Rattle.std.specs.Map.Iter.{deref_pair_mut};
-ghost use Rattle.std.specs.Option.{option_and_then, option_copied_mut};
-ghost use Rattle.std.specs.Map.{set_value};
-ghost use Rattle.vecmap_base.specs.Indices.{KeepsIndices};
-ghost use Rattle.vecmap_base.specs.Lookups.{UpdatesAt, UpdatesBy};
+ghost use Rattle.std.specs.{Prelude.{◌≡◌, ◌-◌, ◌<◌, ◌↔◌, IfSome, IsSome, Some, length, option_map, slice_get}, Borrow.sem, Map.set_value};
+ghost use Rattle.std.specs.{Map.Iter.deref_pair_mut, Option.{option_and_then, option_copied_mut}};
+ghost use Rattle.vecmap_base.specs.{Indices.KeepsIndices, Lookups.{UpdatesAt, UpdatesBy}};
 ghost use Rattle.vecmap_base.specs.Pairs.{index_by, lookup_by, lookup_pair_by, value_at, with_value};
 ghost use Rattle.vecmap_map.specs.Lends.{lends_value};
 

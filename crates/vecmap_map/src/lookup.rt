@@ -1,9 +1,7 @@
 //! Lookups by query and by index.
 ghost use Rattle.std.specs.Prelude.{◌≡◌, ◌-◌, ◌<◌, ◌↔◌, IfSome, IsTrue, Some, is_some, length, nat_lt, option_copied, option_map, slice_get, string_eq};
-ghost use Rattle.std.specs.Map.Iter.{deref_pair};
-ghost use Rattle.std.specs.Option.{option_and_then};
-ghost use Rattle.vecmap_base.specs.Indices.{HasMatchAt, IsFoundAt};
-ghost use Rattle.vecmap_base.specs.Lookups.{UpdatesBy};
+ghost use Rattle.std.specs.{Map.Iter.deref_pair, Option.option_and_then};
+ghost use Rattle.vecmap_base.specs.{Indices.{HasMatchAt, IsFoundAt}, Lookups.UpdatesBy};
 ghost use Rattle.vecmap_base.specs.Pairs.{HasDistinctKeys, has_text, index_by, lookup_by, lookup_pair_by, value_at, with_value};
 
 use crate::VecMap;

@@ -1,8 +1,6 @@
 //! Calls that return mutable references to keys.
-ghost use Rattle.std.specs.Prelude.{◌≡◌, ◌<◌, ◌↔◌, Bool, IfSome, IsSome, List, Option, length, option_map, slice_get};
-ghost use Rattle.std.specs.Borrow.{sem};
-ghost use Rattle.std.specs.Map.{IsKeyTest, keys_of};
-ghost use Rattle.std.specs.Option.{option_and_then};
+ghost use Rattle.std.specs.{Prelude.{◌≡◌, ◌<◌, ◌↔◌, Bool, IfSome, IsSome, List, Option, length, option_map, slice_get}, Borrow.sem};
+ghost use Rattle.std.specs.{Map.{IsKeyTest, keys_of}, Option.option_and_then};
 ghost use Rattle.vecmap_base.specs.Asked.{CallableAtPairMut, CallableOnEach, CallsAtPairMut};
 ghost use Rattle.vecmap_base.specs.Iterators.{ShowsAllOf, deref_both_mut, deref_mut, iter_mut2_name, iter_mut2_rest, keys_mut_name, keys_mut_rest};
 ghost use Rattle.vecmap_base.specs.Kept.{FiltersValues, KeepsKeys, Kept, Retains};

@@ -1,10 +1,8 @@
 //! Reversing, moving, swapping and sorting the pairs.
-ghost use Rattle.std.specs.Prelude.{◌≡◌, ◌<◌, ◌≤◌, Bool, IsOk, OnErr, OnOk, length};
-ghost use Rattle.std.specs.List.Sorted.{IsSortedByKey, IsStableByKey};
+ghost use Rattle.std.specs.{Prelude.{◌≡◌, ◌<◌, ◌≤◌, Bool, IsOk, OnErr, OnOk, length}, List.Sorted.{IsSortedByKey, IsStableByKey}};
 ghost use Rattle.std.specs.Ordering.{is_lt};
-ghost use Rattle.vecmap_base.specs.Lookups.{IsReordered};
+ghost use Rattle.vecmap_base.specs.{Lookups.IsReordered, Reorders.{MovesPair, ReversesPairs, SwapsPairs}};
 ghost use Rattle.vecmap_base.specs.Orders.{ComparesPairsAs, IsSortedByPairClosure, IsSortedByPairKey, IsStableByPairClosure, IsStableByPairKey, ReturnsOnPair};
-ghost use Rattle.vecmap_base.specs.Reorders.{MovesPair, ReversesPairs, SwapsPairs};
 
 use crate::VecMap;
 use std::alloc::AllocError;

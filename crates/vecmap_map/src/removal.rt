@@ -1,11 +1,8 @@
 //! Removal of pairs.
 ghost use Rattle.std.specs.Prelude.{◌≡◌, ◌++◌, ◌<◌, ◌≤◌, Bool, IfNone, IfOk, IsOk, None, OnErr, OnOk, Option, String, [], drop, false, if◌then◌else◌, length, string_eq, true};
-ghost use Rattle.std.specs.Map.{IsKeyTest, keys_of};
-ghost use Rattle.std.specs.Option.{option_and_then, option_or};
-ghost use Rattle.vecmap_base.specs.Asked.{CallableAtPair, CallableOnEach, CallsAtPair};
-ghost use Rattle.vecmap_base.specs.Kept.{FiltersValues, Kept, Retains, ReturnsAtKey};
-ghost use Rattle.vecmap_base.specs.Lookups.{KeepsFront};
-ghost use Rattle.vecmap_base.specs.Pairs.{HasDistinctKeys, has_text, lookup_by};
+ghost use Rattle.std.specs.{Map.{IsKeyTest, keys_of}, Option.{option_and_then, option_or}};
+ghost use Rattle.vecmap_base.specs.{Asked.{CallableAtPair, CallableOnEach, CallsAtPair}, Kept.{FiltersValues, Kept, Retains, ReturnsAtKey}};
+ghost use Rattle.vecmap_base.specs.{Lookups.KeepsFront, Pairs.{HasDistinctKeys, has_text, lookup_by}};
 ghost use Rattle.vecmap_base.specs.Removals.{FindsPair, RemovesAt, RemovesBy, RemovesLast, SwapRemovesAt, SwapRemovesBy};
 
 use crate::VecMap;

@@ -1,10 +1,8 @@
 //! Binary searches in sorted pairs. None allocates.
 ghost use Rattle.std.specs.Prelude.{◌≡◌, ◌<◌, ◌≤◌, Bool, Contains, IfOk, List, Some, false, is_ok, is_some, length, true};
-ghost use Rattle.std.specs.List.{All, HoldsAt};
+ghost use Rattle.std.specs.{List.{All, HoldsAt}, declared.cmp.Ordering.Ordering};
 ghost use Rattle.std.specs.List.Sorted.{IsBinarySearchResult, IsPartitionPoint, IsPartitionedBy, IsSearchInRange, IsSortedByKey};
-ghost use Rattle.std.specs.declared.cmp.Ordering.{Ordering};
-ghost use Rattle.vecmap_base.specs.Orders.{CallableOnPair, ReturnsOnPairs};
-ghost use Rattle.vecmap_base.specs.Pairs.{HasDistinctKeys, index_of, lookup, value_at};
+ghost use Rattle.vecmap_base.specs.{Orders.{CallableOnPair, ReturnsOnPairs}, Pairs.{HasDistinctKeys, index_of, lookup, value_at}};
 
 use crate::VecMap;
 use std::cmp::Ordering;

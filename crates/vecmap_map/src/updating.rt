@@ -1,10 +1,7 @@
 //! Calls that write each value by a closure.
-ghost use Rattle.std.specs.Prelude.{◌≡◌, ◌<◌, ℕ, Bool, IfErr, IsSome, Ok, OnOk, Some, length, map};
-ghost use Rattle.std.specs.List.{All};
-ghost use Rattle.std.specs.Map.{keys_of, values_of};
+ghost use Rattle.std.specs.{Prelude.{◌≡◌, ◌<◌, ℕ, Bool, IfErr, IsSome, Ok, OnOk, Some, length, map}, List.All, Map.{keys_of, values_of}};
 ghost use Rattle.std.specs.Option.{option_map};
-ghost use Rattle.vecmap_base.specs.Indices.{KeepsIndices};
-ghost use Rattle.vecmap_base.specs.Pairs.{index_by, lookup_by, map_values, value_at};
+ghost use Rattle.vecmap_base.specs.{Indices.KeepsIndices, Pairs.{index_by, lookup_by, map_values, value_at}};
 ghost use Rattle.vecmap_base.specs.Updated.{AlwaysComputes, CallableOnValues, Computes, StoppedAt, Updated, WritesValueAt};
 
 use crate::VecMap;

@@ -1,23 +1,13 @@
 -- How std's methods of text read the words of a line. Idea: no word of a command has a space, so `split_once` cuts a
 -- line exactly where the grammar does.
-use Rattle.std.proofs.Common.{ℤ, ◌≡◌, ◌==◌, ◌≢◌, ◌^◌, ◌<◌, ◌≤◌, ℕ, Bool, Bor, IfNone, IfSome, List, [], ◌∷◌, ◌++◌}
+use Rattle.std.proofs.{Common.{ℤ, ◌≡◌, ◌==◌, ◌≢◌, ◌^◌, ◌<◌, ◌≤◌, ℕ, Bool, Bor, IfNone, IfSome, List, [], ◌∷◌, ◌++◌}, lemmas.Bool.and_parts}
 use Rattle.std.proofs.Common.{None, Ok, Option, Result, Some, false, get_or, length, neg_ℤ, not, pos, suc, true, zero}
-use Rattle.std.proofs.Common.{◌∙◌, ap, arith, length-append, lit<, refl, rules, subst, sym}
-use Rattle.std.proofs.Math.Seq.{get_or-append_seam}
-use Rattle.std.proofs.lemmas.Bool.{and_parts}
-use Rattle.std.proofs.lemmas.Bool.Decides.{nat_tests}
-use Rattle.std.proofs.lemmas.List.Folds.{list_all_at}
-use Rattle.std.proofs.lemmas.Slice.Eq.{bytes_eq-Decides}
-use Rattle.std.proofs.lemmas.Str.Pattern.{IsSplitOnceResult, split_after, split_parts}
-use Rattle.std.proofs.lemmas.Option.{cond_some, none-some}
-use Rattle.std.proofs.lemmas.Str.{IsAscii-append}
-use Rattle.std.proofs.lemmas.Str.Parse.{IsNumeralModel, digits_value_short, numerals_by_value, parse_gives}
-use Rattle.std.specs.Prelude.{bytes_eq, codes, if◌then◌else◌}
-use Rattle.std.specs.Char.{is_ascii_digit, is_ascii_graphic}
-use Rattle.std.specs.List.{list_all}
-use Rattle.std.specs.Str.{IsAscii}
-use Rattle.std.specs.Option.{option_map}
-use Rattle.std.specs.Str.Parse.{ParsesUnsigned, digits_value}
+use Rattle.std.proofs.{Common.{◌∙◌, ap, arith, length-append, lit<, refl, rules, subst, sym}, Math.Seq.get_or-append_seam}
+use Rattle.std.proofs.{lemmas.Bool.Decides.nat_tests, lemmas.List.Folds.list_all_at, lemmas.Slice.Eq.bytes_eq-Decides}
+use Rattle.std.proofs.{lemmas.Str.Pattern.{IsSplitOnceResult, split_after, split_parts}, lemmas.Option.{cond_some, none-some}}
+use Rattle.std.proofs.{lemmas.Str.IsAscii-append, lemmas.Str.Parse.{IsNumeralModel, digits_value_short, numerals_by_value, parse_gives}}
+use Rattle.std.specs.{Prelude.{bytes_eq, codes, if◌then◌else◌}, Char.{is_ascii_digit, is_ascii_graphic}, List.list_all, Str.IsAscii}
+use Rattle.std.specs.{Option.option_map, Str.Parse.{ParsesUnsigned, digits_value}}
 use Rattle.vecmap_run.specs.declared.command.Command.{Command}
 use Rattle.vecmap_run.specs.declared.command.Command.TheVariants as command
 use Rattle.vecmap_run.specs.Grammar.{HasArguments, IsPair, IsPairAt, Says, is_key, is_key_byte, is_number, name_of, number_of, value_of}

@@ -1,17 +1,13 @@
 -- How a service proceeds as it reads bytes. Idea: the input read so far is a list of ended lines and an unended rest;
 -- each step keeps this and the answers to the ended lines.
 use Rattle.std.proofs.Common.{◌≡◌, ◌≢◌, ◌==◌, ◌∙◌, ℕ, All, List, [], ◌∷◌, ◌++◌, Option, ap, append-nil, append_assoc, arith, false, if◌then◌else◌, length, length-append, refl, sym, take, true}
-use Rattle.std.proofs.KnownBytes.{Appends-nil, Appends-trans, Consumes-kept, Consumes-trans}
-use Rattle.std.proofs.Math.Seq.{take-append_seam}
-use Rattle.std.proofs.lemmas.Bool.Decides.{nat_tests}
-use Rattle.std.proofs.lemmas.Grind.{common_steps, flat_map-append}
+use Rattle.std.proofs.{KnownBytes.{Appends-nil, Appends-trans, Consumes-kept, Consumes-trans}, Math.Seq.take-append_seam}
+use Rattle.std.proofs.{lemmas.Bool.Decides.nat_tests, lemmas.Grind.{common_steps, flat_map-append}}
 use Rattle.std.proofs.lemmas.List.Elements.{All-head, All-nil, All-push, All-tail, All-weaker}
 use Rattle.std.proofs.lemmas.List.Splits.{slice_split_at, slice_split_none}
-use Rattle.std.specs.Io.KnownBytes.{Appends, Consumes, Keeps}
-use Rattle.std.specs.List.{flat_map}
-use Rattle.vecmap_run.specs.Lines.{all_lines, ended_lines, pieces_of, within_limit, without_empty_last}
+use Rattle.std.specs.{Io.KnownBytes.{Appends, Consumes, Keeps}, List.flat_map}
+use Rattle.vecmap_run.specs.{Lines.{all_lines, ended_lines, pieces_of, within_limit, without_empty_last}, Steps.Entries}
 use Rattle.vecmap_run.specs.Service.{Answers, AnswersLine, GoesOn, HasNoBreak, HasServed, Serves, Splits}
-use Rattle.vecmap_run.specs.Steps.{Entries}
 
 -- One more line, with its answer.
 Answers-more : (old mid new : Entries) (lines : List (List ℕ)) (line text first : List ℕ) → Answers old lines text mid → AnswersLine mid line first new → Answers old (lines ++ line ∷ []) (text ++ first) new

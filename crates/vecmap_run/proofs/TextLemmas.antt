@@ -1,12 +1,9 @@
 -- A text that is found belongs to a stored key, and what is written there is an insertion of this key.
-use Rattle.std.specs.Map.{set_value}
-use Rattle.std.specs.declared.alloc.Global.{Global}
+use Rattle.std.specs.{Map.set_value, declared.alloc.Global.Global}
 use Rattle.std.proofs.Common.{arith, ◌≡◌, ℕ, ℤ, Bool, List, [], ◌∷◌, Some, String, ap, false, if◌then◌else◌, is_some, refl, string_bytes, string_eq, subst, sym, true, unwrap_or, ◌∙◌}
-use Rattle.std.proofs.lemmas.Option.{none-some}
-use Rattle.std.proofs.lemmas.Slice.Eq.{bytes_eq-Decides}
+use Rattle.std.proofs.{lemmas.Option.none-some, lemmas.Slice.Eq.bytes_eq-Decides}
 use Rattle.vecmap.specs.Pairs.{has_text, index_of, lookup, lookup_by, put}
-use Rattle.vecmap_base.proofs.PairsLemmas.ByIndex.{is_some_lookup_by, put_by_index, set_value_by_index}
-use Rattle.vecmap_base.proofs.PairsLemmas.Puts.{put_stored}
+use Rattle.vecmap_base.proofs.{PairsLemmas.ByIndex.{is_some_lookup_by, put_by_index, set_value_by_index}, PairsLemmas.Puts.put_stored}
 use Rattle.vecmap_run.specs.Steps.{Entries}
 
 -- If a text finds a value, a stored key has this text.

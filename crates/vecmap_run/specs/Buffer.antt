@@ -1,6 +1,5 @@
 -- What a buffer and its writer hold together.
-use Rattle.std.specs.Prelude.{ℕ, List, Option}
-use Rattle.std.specs.Io.KnownBytes.{append_known}
+use Rattle.std.specs.{Prelude.{ℕ, List, Option}, Io.KnownBytes.append_known}
 use Rattle.vecmap_run.specs.declared.buffer.Buffer.{Buffer}
 
 -- The writer's bytes and then the gathered ones, or `None` if the writer's are not known.

@@ -1,8 +1,6 @@
 -- Which command a line says.
 use Rattle.std.specs.Prelude.{◌≡◌, ℕ, ◌==◌, ◌&&◌, ◌||◌, Bool, IsTrue, List, ◌∷◌, ◌++◌, None, Option, Some, ℤ, codes, drop, if◌then◌else◌, length, nat_le, nat_lt, neg_ℤ, pos}
-use Rattle.std.specs.Char.{is_ascii_alphanumeric, is_ascii_digit}
-use Rattle.std.specs.List.{list_all}
-use Rattle.std.specs.Option.{option_map}
+use Rattle.std.specs.{Char.{is_ascii_alphanumeric, is_ascii_digit}, List.list_all, Option.option_map}
 use Rattle.std.specs.Str.Parse.{digits_value, starts_with_minus}
 use Rattle.vecmap_run.specs.declared.command.Command.{Command}
 use Rattle.vecmap_run.specs.declared.command.Command.TheVariants as command

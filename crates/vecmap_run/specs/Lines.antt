@@ -1,6 +1,5 @@
 -- The lines of an input.
-use Rattle.std.specs.Prelude.{ℕ, ◌-◌, ◌==◌, List, [], ◌∷◌, None, Option, Some, if◌then◌else◌, length, nat_le, take}
-use Rattle.std.specs.List.{slice_split}
+use Rattle.std.specs.{Prelude.{ℕ, ◌-◌, ◌==◌, List, [], ◌∷◌, None, Option, Some, if◌then◌else◌, length, nat_le, take}, List.slice_split}
 
 -- The pieces of the input between its line breaks (10).
 abbrev pub pieces_of : List ℕ → List (List ℕ)

@@ -1,10 +1,7 @@
 -- The text that an answer prints.
-use Rattle.std.specs.Prelude.{ℕ, List, [], ◌∷◌, ◌++◌, None, Some, codes, string_bytes, ℤ, String}
-use Rattle.std.specs.Fmt.{decimal, signed_decimal}
-use Rattle.std.specs.List.{flat_map}
-use Rattle.std.specs.declared.alloc.Global.{Global}
-use Rattle.vecmap_run.specs.Steps.{Entries}
-use Rattle.vecmap_run.specs.declared.answer.Answer.{Answer}
+use Rattle.std.specs.{Prelude.{ℕ, List, [], ◌∷◌, ◌++◌, None, Some, codes, string_bytes, ℤ, String}, Fmt.{decimal, signed_decimal}}
+use Rattle.std.specs.{List.flat_map, declared.alloc.Global.Global}
+use Rattle.vecmap_run.specs.{Steps.Entries, declared.answer.Answer.Answer}
 use Rattle.vecmap_run.specs.declared.answer.Answer.TheVariants.{Fault, Moved, NoMemory, Number, OutOfRange, Pairs, Place, Value}
 
 -- A key, `=` (61) and its value.

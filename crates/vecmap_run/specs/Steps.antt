@@ -2,9 +2,8 @@
 use Rattle.std.specs.Prelude.{◌≡◌, ℕ, ◌<◌, ◌≤◌, List, None, Some, String, length, unwrap_or, string_bytes, string_eq, ℤ}
 use Rattle.std.specs.declared.alloc.Global.{Global}
 use Rattle.vecmap.specs.Pairs.{has_text, index_by, lookup, lookup_by, lookup_indexed, put, put_at, swap_without_by, without_by}
-use Rattle.vecmap_run.specs.declared.answer.Answer.{Answer}
+use Rattle.vecmap_run.specs.{declared.answer.Answer.Answer, declared.command.Command.Command}
 use Rattle.vecmap_run.specs.declared.answer.Answer.TheVariants.{Moved, NoMemory, Number, OutOfRange, Pairs, Place, Value}
-use Rattle.vecmap_run.specs.declared.command.Command.{Command}
 use Rattle.vecmap_run.specs.declared.command.Command.TheVariants as command
 
 -- The pairs of the map.

@@ -1,6 +1,5 @@
 //! A buffer in front of a writer, so that a short answer needs one write.
-ghost use Rattle.std.specs.Io.KnownBytes.{Appends};
-ghost use Rattle.std.specs.Prelude.{◌≡◌, ◌∷◌, [], OnOk};
+ghost use Rattle.std.specs.{Io.KnownBytes.Appends, Prelude.{◌≡◌, ◌∷◌, [], OnOk}};
 ghost use Rattle.vecmap_run.specs.Buffer.{buffer_bytes};
 
 use crate::bytes::Bytes;

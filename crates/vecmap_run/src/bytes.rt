@@ -1,6 +1,5 @@
 //! Bytes in a fixed array.
-ghost use Rattle.std.specs.Prelude.{◌≡◌, ◌++◌, ◌∷◌, ◌<◌, ◌≤◌, ◌==◌, [], List, ℕ, length, take};
-ghost use Rattle.std.specs.Bool.{OnFalse};
+ghost use Rattle.std.specs.{Prelude.{◌≡◌, ◌++◌, ◌∷◌, ◌<◌, ◌≤◌, ◌==◌, [], List, ℕ, length, take}, Bool.OnFalse};
 
 use std::marker::Model;
 

@@ -1,6 +1,5 @@
 //! Reads the command of a line.
-ghost use Rattle.std.specs.Prelude.{◌≡◌, ◌≢◌, ◌^◌, ◌<◌, ℕ, ℤ, IfNone, IfSome, IsTrue, List, codes, false};
-ghost use Rattle.std.specs.Char.{is_ascii_digit};
+ghost use Rattle.std.specs.{Prelude.{◌≡◌, ◌≢◌, ◌^◌, ◌<◌, ℕ, ℤ, IfNone, IfSome, IsTrue, List, codes, false}, Char.is_ascii_digit};
 ghost use Rattle.std.specs.List.{list_all};
 ghost use Rattle.vecmap_run.specs.declared.command.Command.{Command};
 ghost use Rattle.vecmap_run.specs.Grammar.{HasArguments, IsPair, IsPairAt, Says, has_length_up_to, is_key, is_key_byte, name_of, number_of, value_of};

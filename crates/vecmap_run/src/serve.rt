@@ -1,8 +1,6 @@
 //! The loop over the input: reads lines, executes their commands, and writes the answers.
-ghost use Rattle.std.specs.Prelude.{◌≡◌, ◌∷◌, ◌++◌, [], IfErr, IsErrOf, List, OnOk, ℕ};
-ghost use Rattle.std.specs.Io.KnownBytes.{Appends, IsAtEnd};
-ghost use Rattle.vecmap_run.specs.Lines.{all_lines, ended_lines, within_limit};
-ghost use Rattle.vecmap_run.specs.Print.{printed};
+ghost use Rattle.std.specs.{Prelude.{◌≡◌, ◌∷◌, ◌++◌, [], IfErr, IsErrOf, List, OnOk, ℕ}, Io.KnownBytes.{Appends, IsAtEnd}};
+ghost use Rattle.vecmap_run.specs.{Lines.{all_lines, ended_lines, within_limit}, Print.printed};
 ghost use Rattle.vecmap_run.specs.Service.{Answers, AnswersLine, GoesOn, HasServed, Serves};
 
 use crate::answer::execute_line;

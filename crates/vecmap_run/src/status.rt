@@ -1,6 +1,5 @@
 //! The exit status of the program.
-ghost use Rattle.std.specs.Prelude.{◌≡◌, OnErr, OnOk};
-ghost use Rattle.std.specs.Process.{exit_status};
+ghost use Rattle.std.specs.{Prelude.{◌≡◌, OnErr, OnOk}, Process.exit_status};
 
 use crate::serve::Fault;
 use std::process::ExitCode;

@@ -1,7 +1,6 @@
 //! Calls that copy elements. They are made of a set of elements that can be copied, which has the script's elements and
 //! its capacity before the call, and gives both back after it.
-ghost use Rattle.std.specs.Prelude.{nat_eq};
-ghost use Rattle.std.specs.Cmp.{nat_eq_equiv, partial_equiv_from_equiv};
+ghost use Rattle.std.specs.{Prelude.nat_eq, Cmp.{nat_eq_equiv, partial_equiv_from_equiv}};
 
 use crate::set::Set;
 use std::alloc::AllocError;

@@ -1,6 +1,5 @@
 //! The iterators that a call is given: with any lower size hint, and a log that counts the calls of `next`.
-ghost use Rattle.std.specs.Prelude.{◌+◌, length};
-ghost use Rattle.std.specs.Iterator.{at_most};
+ghost use Rattle.std.specs.{Prelude.{◌+◌, length}, Iterator.at_most};
 
 use crate::{Log, Out, again};
 use std::alloc::{AllocError, Global};

@@ -1,14 +1,10 @@
 -- At which indices elements and queries find their match after a change, in the words of contracts.
 use Rattle.std.specs.{Cmp.IsEquivalence, List.AllByRecursion, List.IsDistinct, Map.IsKeyTest, Borrow.Bor, List.list_any}
-use Rattle.std.specs.Prelude.{IfSome, IfOk, Err, Ok, Result, nat_eq, nat_lt, option_copied}
+use Rattle.std.specs.{Prelude.{IfSome, IfOk, Err, Ok, Result, nat_eq, nat_lt, option_copied}, List.swap_remove, Option.option_map_or}
 use Rattle.std.proofs.Common.{◌≡◌, ◌∙◌, ◌++◌, ◌<◌, ◌-◌, ◌≤◌, ℕ, suc, zero, Bool, true, false, List, [], ◌∷◌, None, Option, Some, ap, arith, cond, drop, get_or, get_or-take, inl, inr, length, length-set, option_map, position, refl, remove, set, slice_get, swap, sym, take, is_some}
-use Rattle.std.proofs.lemmas.Bool.{cases_Bool, cases_lt, le-ltb, lt-ltb, ltb-true}
-use Rattle.std.proofs.lemmas.Grind.{get_or-set_at}
-use Rattle.std.proofs.lemmas.List.{length-take-le}
-use Rattle.std.proofs.lemmas.List.Quantifiers.{position-Some}
-use Rattle.std.proofs.lemmas.Map.Keys.{IsDistinct-head, IsDistinct-tail}
+use Rattle.std.proofs.{lemmas.Bool.{cases_Bool, cases_lt, le-ltb, lt-ltb, ltb-true}, lemmas.Grind.get_or-set_at, lemmas.List.length-take-le}
+use Rattle.std.proofs.{lemmas.List.Quantifiers.position-Some, lemmas.Map.Keys.{IsDistinct-head, IsDistinct-tail}}
 use Rattle.std.proofs.lemmas.Option.{none-some, slice_get-get_or}
-use Rattle.std.specs.{List.swap_remove, Option.option_map_or}
 use Rattle.vecmap_base.specs.Items.{moved, put_item, swap_without, item_index}
 use Rattle.vecmap_base.proofs.IndexLemmas.{position_cons, later, list_any_position, position_front, position_stays}
 use Rattle.vecmap_base.proofs.ItemsLemmas.Recursion.{put_item_cons}

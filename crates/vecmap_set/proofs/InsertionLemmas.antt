@@ -1,17 +1,12 @@
 -- The records of insertions, from the list that is left.
 use Rattle.std.specs.{Cmp.IsEquivalence, Option.option_and_then, Option.option_map_or, Set.is_member}
 use Rattle.std.proofs.Common.{◌≡◌, ◌∙◌, ◌++◌, ◌+◌, ℕ, Bool, true, false, List, [], ◌∷◌, None, Option, Some, IsTrue, ap, arith, if◌then◌else◌, inl, inr, is_some, length, length-append, not, position, refl, slice_get, slice_set, sym, true≢false}
-use Rattle.std.proofs.lemmas.Bool.{cases_Bool}
-use Rattle.std.proofs.lemmas.List.{length-set}
+use Rattle.std.proofs.{lemmas.Bool.cases_Bool, lemmas.List.length-set}
 use Rattle.vecmap_base.specs.Items.{add, put_item, stored_item}
-use Rattle.vecmap_base.proofs.IndexLemmas.{list_any_position, list_any_stored, stored_last}
-use Rattle.vecmap_base.proofs.ItemsLemmas.Additions.{add_absent, add_present}
-use Rattle.vecmap_base.proofs.ItemsLemmas.Changes.{members_of_put}
-use Rattle.vecmap_base.proofs.ItemsLemmas.Members.{members_of_add}
-use Rattle.vecmap_set.specs.Indices.{KeepsMatchIndices}
-use Rattle.vecmap_set.specs.Insertions.{AddsItem, PutsItem}
-use Rattle.vecmap_set.proofs.IndexLemmas.{indices_appended, indices_of_put, indices_stay}
-use Rattle.vecmap_set.proofs.QueryLemmas.{any_of_add, any_of_put}
+use Rattle.vecmap_base.proofs.{IndexLemmas.{list_any_position, list_any_stored, stored_last}, ItemsLemmas.Changes.members_of_put}
+use Rattle.vecmap_base.proofs.{ItemsLemmas.Additions.{add_absent, add_present}, ItemsLemmas.Members.members_of_add}
+use Rattle.vecmap_set.specs.{Indices.KeepsMatchIndices, Insertions.{AddsItem, PutsItem}}
+use Rattle.vecmap_set.proofs.{IndexLemmas.{indices_appended, indices_of_put, indices_stay}, QueryLemmas.{any_of_add, any_of_put}}
 
 module _ {T : Type 0} (eq : T → T → Bool) (o : IsEquivalence eq) (s r : List T) (x : T) where
   is_new : (b : Bool) → IsTrue (not b) → b ≡ false

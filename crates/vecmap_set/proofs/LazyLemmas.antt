@@ -1,12 +1,8 @@
 -- Runs of the lazy iterators, and bounds of the number of elements that they have left.
 use Rattle.std.proofs.Common.{◌≡◌, ℕ, ◌<◌, ◌≤◌, ◌+◌, ◌^◌, length-append, Bool, List, Option, None, Some, ap, length, not, arith, refl}
-use Rattle.std.proofs.lemmas.List.Filters.{length-filter_both}
-use Rattle.std.proofs.iter.runs.Sources.{from_front, from_back}
-use Rattle.std.specs.Borrow.{Bor}
-use Rattle.std.specs.Iterator.{UpTo, YieldsFirstRef, YieldsLastRef, at_most}
+use Rattle.std.proofs.{lemmas.List.Filters.length-filter_both, iter.runs.Sources.{from_front, from_back}}
+use Rattle.std.specs.{Borrow.Bor, Iterator.{UpTo, YieldsFirstRef, YieldsLastRef, at_most}, List.filter, Option.{IfSome, SomeIff}}
 use Rattle.std.specs.Iterator.Runs.{YieldsRefsInOrder, YieldsRefsInReverse}
-use Rattle.std.specs.List.{filter}
-use Rattle.std.specs.Option.{IfSome, SomeIff}
 use Rattle.vecmap_set.specs.Lazy.{ExcludesAll, ExcludesFirst, ExcludesLast, Filtered, JoinsAll, JoinsFirst, JoinsLast, Parts, symmetric_parts, symmetric_rest, union_parts, union_rest}
 
 module _ {S T : Type 0} (next next_back : S → Option (Bor T) → S → Type 0) (rest : S → List T) where

@@ -4,8 +4,7 @@ use Rattle.std.specs.{Cmp.IsEquivalence, List.IsDistinct, Set.is_member}
 use Rattle.std.proofs.Common.{◌≡◌, ◌∙◌, ◌+◌, ◌++◌, ◌≤◌, ◌||◌, Bool, Contains, IsTrue, List, [], ◌∷◌, ap, arith, false, if◌then◌else◌, length, length-append, refl, sym, true}
 use Rattle.std.proofs.lemmas.{Bool.or_right, List.append-nil, List.append_assoc, Map.Made.length-le_from_is_member}
 use Rattle.vecmap_base.specs.{Clones.AreClones, Items.adds}
-use Rattle.vecmap_base.proofs.ItemsLemmas.Additions.{adds_distinct}
-use Rattle.vecmap_base.proofs.ItemsLemmas.Changes.{is_member_clones}
+use Rattle.vecmap_base.proofs.{ItemsLemmas.Additions.adds_distinct, ItemsLemmas.Changes.is_member_clones}
 use Rattle.vecmap_base.proofs.ItemsLemmas.Members.{is_member_adds}
 use Rattle.vecmap_set.specs.Indices.{KeepsMatchIndices}
 use Rattle.vecmap_set.proofs.IndexLemmas.{indices_appended}

@@ -3,12 +3,10 @@ use Rattle.std.proofs.Common.{◌≡◌, ◌+◌, ◌≤◌, ◌&&◌, ◌||◌,
 use Rattle.std.proofs.lemmas.{Bool.cases_Bool, List.append-nil, List.map_push, List.Elements.AllZip-push, List.Folds.list_any-append}
 use Rattle.std.specs.{Borrow.Bor, Cmp.IsEquivalence, Iterator.Yields, Iterator.YieldsFirstRef, List.IsDistinct, List.list_any, Map.IsKeyTest, Map.Iter.deref, Set.is_member}
 use Rattle.vecmap_base.specs.{Clones.AreClones, Items.both, Items.only}
-use Rattle.vecmap_base.proofs.EqualityLemmas.Relations.{is_member_only}
-use Rattle.vecmap_base.proofs.ItemsLemmas.Changes.{is_member_clones}
+use Rattle.vecmap_base.proofs.{EqualityLemmas.Relations.is_member_only, ItemsLemmas.Changes.is_member_clones}
 use Rattle.vecmap_base.proofs.PairsLemmas.Lookups.{compares_with}
 use Rattle.vecmap_set.specs.Operators.{CombinesMembers, DrainsIntoClones, symmetric_difference_of, union_of}
-use Rattle.vecmap_set.proofs.MemberLemmas.{length_of_clones}
-use Rattle.vecmap_set.proofs.SetLemmas.{distinct_clones_of}
+use Rattle.vecmap_set.proofs.{MemberLemmas.length_of_clones, SetLemmas.distinct_clones_of}
 
 module _ {S T : Type 0} (steps : S → Option (Bor T) → S → Type 0) (rest : S → List T) where
   taken : ((s : S) (r : Option (Bor T)) (t : S) → steps s r t → YieldsFirstRef rest s r t) → (s t : S) (items : List (Bor T)) → Yields steps s items t → rest s ≡ map deref items ++ rest t

@@ -1,13 +1,9 @@
 -- What queries find after a change of a list, in the words of contracts.
-use Rattle.std.specs.{Borrow.Bor, List.list_any, List.Sorted.IsPermutation}
-use Rattle.std.specs.Prelude.{IfSome, option_copied}
+use Rattle.std.specs.{Borrow.Bor, List.list_any, List.Sorted.IsPermutation, Prelude.{IfSome, option_copied}, List.swap_remove}
 use Rattle.std.proofs.Common.{arith, ◌≡◌, ◌∙◌, ◌<◌, ◌||◌, ℕ, Bool, true, false, IsTrue, List, [], ◌∷◌, None, Option, Some, ap, length, position, refl, remove, reverse, slice_get, subst, swap, sym}
-use Rattle.std.proofs.lemmas.List.Folds.{list_any-append}
+use Rattle.std.proofs.{lemmas.List.Folds.list_any-append, lemmas.Option.{get_or_from_slice_get, none-some, slice_get_within}}
 use Rattle.std.proofs.lemmas.List.Sorted.{IsPermutation-remove, IsPermutation-reverse, IsPermutation-swap, IsPermutation-swap_remove, length_permutation, list_any-IsPermutation}
-use Rattle.std.proofs.lemmas.Option.{get_or_from_slice_get, none-some, slice_get_within}
-use Rattle.std.specs.List.{swap_remove}
-use Rattle.std.specs.Option.{option_and_then, option_map_or}
-use Rattle.std.specs.Set.{is_member}
+use Rattle.std.specs.{Option.{option_and_then, option_map_or}, Set.is_member}
 use Rattle.vecmap_base.specs.Items.{IsReorderedItems, add, put_item, stored_first, swap_without}
 use Rattle.vecmap_base.proofs.ItemsLemmas.{Members.or_true, Recursion.put_item_cons}
 use Rattle.vecmap_set.proofs.IndexLemmas.{found_item_at}

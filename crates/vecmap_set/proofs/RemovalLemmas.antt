@@ -1,14 +1,11 @@
 -- The records of removals of elements, from the list that is left.
 use Rattle.std.specs.{Cmp.IsEquivalence, List.IsDistinct, List.list_any, List.Sorted.IsPermutation, Map.IsKeyTest, Option.option_to_list}
 use Rattle.std.proofs.Common.{◌≡◌, ◌∙◌, ◌&&◌, ◌-◌, ◌++◌, ◌||◌, ℕ, Bool, IsTrue, List, None, Option, Some, IfSome, ◌∷◌, ap, inl, inr, is_some, length, remove, slice_get, sym, subst, take}
-use Rattle.std.proofs.lemmas.List.{length-take}
-use Rattle.std.proofs.lemmas.List.Sorted.{list_any-IsPermutation}
-use Rattle.std.proofs.lemmas.Map.Keys.{IsDistinct-tail}
+use Rattle.std.proofs.{lemmas.List.length-take, lemmas.List.Sorted.list_any-IsPermutation, lemmas.Map.Keys.IsDistinct-tail}
 use Rattle.vecmap_base.specs.Items.{stored_first, swap_without, swap_without_first, without_first}
-use Rattle.vecmap_base.proofs.DistinctLemmas.{Order.distinct_rearranged, Removals.distinct_take}
+use Rattle.vecmap_base.proofs.{DistinctLemmas.{Order.distinct_rearranged, Removals.distinct_take}, PairsLemmas.Lookups.compares_with}
 use Rattle.vecmap_base.proofs.IndexLemmas.{list_any_position, list_any_stored}
 use Rattle.vecmap_base.proofs.ItemsLemmas.{Changes.matches_of_front, Changes.members_popped, Members.members_of_first, Members.members_removed}
-use Rattle.vecmap_base.proofs.PairsLemmas.Lookups.{compares_with}
 use Rattle.vecmap_base.proofs.TakenLemmas.{TakesFirst, first_by_shift, first_by_swap, last_read, last_taken, len_of_first, len_popped, one_less, taken_by_shift, taken_by_swap}
 use Rattle.vecmap_set.specs.Removals.{FindsItem, KeepsFrontItems, RemovesItemAt, RemovesItemBy, RemovesLastItem, SwapRemovesItemAt, SwapRemovesItemBy, Takes}
 use Rattle.vecmap_set.specs.Tests.{AgreesOnEquals}

@@ -1,7 +1,5 @@
 -- What contracts see of the drain of a set.
-use Rattle.std.specs.Prelude.{◌≡◌, ℕ, List, Option, drop, take}
-use Rattle.std.specs.Borrow.{GName}
-use Rattle.std.specs.Vec.Iter.{reverse_if}
+use Rattle.std.specs.{Prelude.{◌≡◌, ℕ, List, Option, drop, take}, Borrow.GName, Vec.Iter.reverse_if}
 use Rattle.vecmap_base.specs.Drain.{DrainsFirst, DrainsLast}
 use Rattle.vecmap_set.specs.declared.drain.Drain.{Drain}
 

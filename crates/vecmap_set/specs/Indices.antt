@@ -1,6 +1,5 @@
 -- At which indices a set has its elements after a change. `eq` is the `==` of the elements.
-use Rattle.std.specs.Prelude.{◌≡◌, ◌+◌, ◌<◌, ◌≤◌, ℕ, Bool, List, Some, position, slice_get}
-use Rattle.std.specs.Map.{IsKeyTest}
+use Rattle.std.specs.{Prelude.{◌≡◌, ◌+◌, ◌<◌, ◌≤◌, ℕ, Bool, List, Some, position, slice_get}, Map.IsKeyTest}
 use Rattle.vecmap_base.specs.Items.{item_index}
 
 module _ {T : Type 0} where

@@ -1,12 +1,9 @@
 -- What the insertion of one element leaves of a set, one record for each kind of insertion. `eq` is the `==` of the elements.
 -- In the examples, `1x` and `1y` are elements that `eq` calls equal, and are not the same.
 use Rattle.std.specs.Prelude.{◌≡◌, ◌++◌, ◌∷◌, ◌+◌, ◌||◌, Bool, IsTrue, List, [], None, Some, if◌then◌else◌, is_some, length, not, slice_get, true}
-use Rattle.std.specs.List.{list_any}
-use Rattle.std.specs.Set.{is_member}
-use Rattle.vecmap_base.specs.Items.{add, put_item, stored_item}
-use Rattle.vecmap_base.specs.Lookups.{UpdatesMember}
-use Rattle.vecmap_set.specs.Indices.{KeepsItemIndices, KeepsMatchIndices}
-use Rattle.vecmap_set.specs.Tests.{AgreesOnEquals}
+use Rattle.std.specs.{List.list_any, Set.is_member}
+use Rattle.vecmap_base.specs.{Items.{add, put_item, stored_item}, Lookups.UpdatesMember}
+use Rattle.vecmap_set.specs.{Indices.{KeepsItemIndices, KeepsMatchIndices}, Tests.AgreesOnEquals}
 
 module _ {T : Type 0} (eq : T → T → Bool) where
   -- Example: from `[1x]` to `[1x, 2x]` for `2x`.

@@ -1,12 +1,8 @@
 -- What the lazy iterators over two lists of elements have left, and what their calls return. `eq` is the `==` of the
 -- elements.
 use Rattle.std.specs.Prelude.{◌≡◌, ℕ, ◌<◌, ◌^◌, Bool, List, ◌++◌, ◌⊎◌, MatchOption, None, Option, Some, SomeIff, filter, if◌then◌else◌, length, nat_lt, not}
-use Rattle.std.specs.Borrow.{Bor}
-use Rattle.std.specs.Iterator.{YieldsFirstRef, YieldsLastRef}
-use Rattle.std.specs.Iterator.Runs.{YieldsRefsInOrder, YieldsRefsInReverse}
-use Rattle.std.specs.List.{after_first, before_last}
-use Rattle.std.specs.Map.Iter.{TakesFirst, TakesLast, deref}
-use Rattle.std.specs.Set.{is_member}
+use Rattle.std.specs.{Borrow.Bor, Iterator.{YieldsFirstRef, YieldsLastRef}, Iterator.Runs.{YieldsRefsInOrder, YieldsRefsInReverse}}
+use Rattle.std.specs.{List.{after_first, before_last}, Map.Iter.{TakesFirst, TakesLast, deref}, Set.is_member}
 
 -- Example: `difference` of `[1,2]` and `[2]`: `[1,2]`, looked up in `[2]`.
 -- The elements that are not yet visited, and the list in which each of them is looked up.

@@ -1,13 +1,7 @@
 -- What the operators on two sets create. `eq` is the `==` of the elements.
 use Rattle.std.specs.Prelude.{◌≡◌, ◌+◌, ◌≤◌, Bool, Contains, IfOk, IsTrue, List, ◌++◌, Option, Result, false, length, map, true}
-use Rattle.std.specs.Borrow.{Bor}
-use Rattle.std.specs.Iterator.{Drains}
-use Rattle.std.specs.List.{IsDistinct, list_any}
-use Rattle.std.specs.Map.{IsKeyTest}
-use Rattle.std.specs.Map.Iter.{deref}
-use Rattle.std.specs.Set.{is_member}
-use Rattle.vecmap_base.specs.Clones.{AreClones}
-use Rattle.vecmap_base.specs.Items.{only}
+use Rattle.std.specs.{Borrow.Bor, Iterator.Drains, List.{IsDistinct, list_any}, Map.IsKeyTest, Map.Iter.deref, Set.is_member}
+use Rattle.vecmap_base.specs.{Clones.AreClones, Items.only}
 use Rattle.vecmap_set.specs.Contents.{Contents}
 
 module _ {T : Type 0} (eq : T → T → Bool) where

@@ -2,10 +2,8 @@
 -- and a test is what a query does with an element.
 use Rattle.std.specs.Prelude.{◌≡◌, ◌&&◌, ◌+◌, ◌-◌, ◌<◌, ◌||◌, ℕ, Bool, IfSome, IsTrue, List, Option, Some, false, if◌then◌else◌, is_some, length, min, nat_lt, position, remove, slice_get, take, true, unwrap_or}
 use Rattle.std.specs.List.{IsDistinct, list_any}
-use Rattle.vecmap_base.specs.Items.{stored_first, swap_without, swap_without_first, without_first}
-use Rattle.vecmap_base.specs.Lookups.{UpdatesMember}
-use Rattle.vecmap_set.specs.Indices.{KeepsMatchIndicesBelow, MovesItemIndex, ShiftsItems}
-use Rattle.vecmap_set.specs.Tests.{AgreesOnEquals}
+use Rattle.vecmap_base.specs.{Items.{stored_first, swap_without, swap_without_first, without_first}, Lookups.UpdatesMember}
+use Rattle.vecmap_set.specs.{Indices.{KeepsMatchIndicesBelow, MovesItemIndex, ShiftsItems}, Tests.AgreesOnEquals}
 
 module _ {T : Type 0} where
   -- Example: 2 of `[1, 2]` for the query 2.

@@ -1,6 +1,5 @@
 -- What a reversal, a swap and a move of elements leave of a set. `eq` is the `==` of the elements.
-use Rattle.std.specs.Prelude.{◌≡◌, ◌-◌, ◌<◌, ℕ, Bool, List, false, length, nat_eq, reverse, swap}
-use Rattle.std.specs.List.{IsDistinct}
+use Rattle.std.specs.{Prelude.{◌≡◌, ◌-◌, ◌<◌, ℕ, Bool, List, false, length, nat_eq, reverse, swap}, List.IsDistinct}
 use Rattle.vecmap_base.specs.Items.{IsReorderedItems, moved}
 use Rattle.vecmap_set.specs.Indices.{MovesItemIndex}
 

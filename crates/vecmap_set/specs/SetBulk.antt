@@ -1,9 +1,6 @@
 -- What the calls that add many elements at once leave.
-use Rattle.std.specs.Prelude.{◌≡◌, ◌≤◌, Bool, List, OnErr, Option, Result, map}
-use Rattle.std.specs.Iterator.{Count}
-use Rattle.std.specs.List.{IsDistinct}
-use Rattle.vecmap_base.specs.Bulk.{HasRoomForAll, StopsAt}
-use Rattle.vecmap_base.specs.Items.{adds}
+use Rattle.std.specs.{Prelude.{◌≡◌, ◌≤◌, Bool, List, OnErr, Option, Result, map}, Iterator.Count, List.IsDistinct}
+use Rattle.vecmap_base.specs.{Bulk.{HasRoomForAll, StopsAt}, Items.adds}
 use Rattle.vecmap_set.specs.Contents.{Contents, HasRoom, Refuses}
 
 module _ {T U S A E : Type 0} (becomes : U → S → Type 0) (steps : S → Option A → S → Type 0) (left : S → Count) where

@@ -1,15 +1,9 @@
 //! Creation of a set from many elements, and addition of many elements.
 ghost use Rattle.std.specs.Prelude.{◌≡◌, ◌+◌, ◌<◌, ◌≤◌, ◌||◌, Contains, IfOk, IsOk, IsTrue, List, OnErr, OnOk, [], length, map};
-ghost use Rattle.std.specs.Borrow.{Bor};
-ghost use Rattle.std.specs.Iterator.{Drains, ExtendsWithItems, IsFiniteIterable};
-ghost use Rattle.std.specs.List.{IsDistinct};
-ghost use Rattle.std.specs.Map.Iter.{deref};
+ghost use Rattle.std.specs.{Borrow.Bor, Iterator.{Drains, ExtendsWithItems, IsFiniteIterable}, List.IsDistinct, Map.Iter.deref};
 ghost use Rattle.std.specs.Set.{is_member};
-ghost use Rattle.vecmap_base.specs.Bulk.{HasRoomForAll, YieldsAll};
-ghost use Rattle.vecmap_base.specs.Clones.{AreClones};
-ghost use Rattle.vecmap_base.specs.Items.{adds};
-ghost use Rattle.vecmap_set.specs.Contents.{HasRoom, with_elements};
-ghost use Rattle.vecmap_set.specs.Indices.{KeepsMatchIndices};
+ghost use Rattle.vecmap_base.specs.{Bulk.{HasRoomForAll, YieldsAll}, Clones.AreClones, Items.adds};
+ghost use Rattle.vecmap_set.specs.{Contents.{HasRoom, with_elements}, Indices.KeepsMatchIndices};
 ghost use Rattle.vecmap_set.specs.SetBulk.{Adds, AddsCopies, Extends, RefusesAfter, RefusesCopiesAfter};
 
 use crate::VecSet;

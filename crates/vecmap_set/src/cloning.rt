@@ -1,9 +1,6 @@
 //! Clones of a set, by a call and by the trait `Clone`, for generic code, derives and sets in maps.
-ghost use Rattle.std.specs.Prelude.{◌≡◌, ◌↔◌, Contains, IfOk, IsTrue, length};
-ghost use Rattle.std.specs.List.{IsDistinct};
-ghost use Rattle.std.specs.Set.{is_member};
-ghost use Rattle.vecmap_base.specs.Clones.{AreClones};
-ghost use Rattle.vecmap_base.specs.Equality.{has_same_items};
+ghost use Rattle.std.specs.{Prelude.{◌≡◌, ◌↔◌, Contains, IfOk, IsTrue, length}, List.IsDistinct, Set.is_member};
+ghost use Rattle.vecmap_base.specs.{Clones.AreClones, Equality.has_same_items};
 
 use crate::VecSet;
 use std::alloc::AllocError;

@@ -1,10 +1,6 @@
 //! Conversions of a vector into a set, which keep the vector, and of an array; clones of the elements in a new vector.
-ghost use Rattle.std.specs.Prelude.{◌≡◌, ◌≤◌, IfOk, [], length, vec_capacity};
-ghost use Rattle.std.specs.List.{IsDistinct};
-ghost use Rattle.std.specs.Set.{is_member};
-ghost use Rattle.vecmap_base.specs.Clones.{AreClones};
-ghost use Rattle.vecmap_base.specs.Items.{adds};
-ghost use Rattle.vecmap_base.specs.Comparisons.{comparisons};
+ghost use Rattle.std.specs.{Prelude.{◌≡◌, ◌≤◌, IfOk, [], length, vec_capacity}, List.IsDistinct, Set.is_member};
+ghost use Rattle.vecmap_base.specs.{Clones.AreClones, Items.adds, Comparisons.comparisons};
 
 use crate::VecSet;
 use std::alloc::{AllocError, Global};

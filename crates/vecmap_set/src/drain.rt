@@ -1,12 +1,9 @@
 //! The call `drain`, and its iterator, which removes a range of elements from a set.
 //!
 //! The iterator holds a reference to the set and no vector, so the elements of the set are distinct at any moment.
-ghost use Rattle.std.specs.Prelude.{◌≡◌, ◌<◌, ◌≤◌, ◌^◌, length, slice_range};
-ghost use Rattle.std.specs.Iterator.{at_most};
+ghost use Rattle.std.specs.{Prelude.{◌≡◌, ◌<◌, ◌≤◌, ◌^◌, length, slice_range}, Iterator.at_most, List.{IsDistinct, remove_range}};
 ghost use Rattle.std.specs.Iterator.Runs.{YieldsInOrder, YieldsInReverse};
-ghost use Rattle.std.specs.List.{IsDistinct, remove_range};
-ghost use Rattle.vecmap_base.specs.Drain.{KeepsAlong};
-ghost use Rattle.vecmap_base.specs.Iterators.{HintsExactly};
+ghost use Rattle.vecmap_base.specs.{Drain.KeepsAlong, Iterators.HintsExactly};
 ghost use Rattle.vecmap_base.specs.Ranges.{AreEndsWithin, IsRangeWithin, items_between, without_between};
 ghost use Rattle.vecmap_set.specs.Drain.{DrainKeeps, DrainNext, DrainNextBack, drain_capacity, drain_kept, drain_lender, drain_rest};
 

@@ -1,8 +1,6 @@
 //! Equality of sets, disjoint sets, subsets and supersets.
-ghost use Rattle.std.specs.Prelude.{◌≡◌, ◌↔◌, ◌≤◌, IsTrue, [], false, length};
-ghost use Rattle.std.specs.Set.{is_member};
-ghost use Rattle.vecmap_base.specs.Equality.{has_same_items, is_within};
-ghost use Rattle.vecmap_base.specs.Items.{both};
+ghost use Rattle.std.specs.{Prelude.{◌≡◌, ◌↔◌, ◌≤◌, IsTrue, [], false, length}, Set.is_member};
+ghost use Rattle.vecmap_base.specs.{Equality.{has_same_items, is_within}, Items.both};
 
 use crate::VecSet;
 use vecmap_base::{are_disjoint, is_subset_of};

@@ -2,12 +2,9 @@
 //!
 //! Each impl calls the inherent function that it names, and promises the same if an allocation fails. Generic code
 //! knows only what the trait promises: that the items up to some point were added.
-ghost use Rattle.std.specs.Iterator.{ExtendsWithItems, IsFiniteIterable};
-ghost use Rattle.std.specs.Map.Iter.{deref};
-ghost use Rattle.std.specs.Prelude.{IsOk};
+ghost use Rattle.std.specs.{Iterator.{ExtendsWithItems, IsFiniteIterable}, Map.Iter.deref, Prelude.IsOk};
 ghost use Rattle.vecmap_base.specs.Bulk.{HasRoomForAll};
-ghost use Rattle.vecmap_set.specs.Contents.{HasRoom};
-ghost use Rattle.vecmap_set.specs.SetBulk.{Adds, AddsCopies, Extends, GrowsDistinct, RefusesAfter, RefusesCopiesAfter};
+ghost use Rattle.vecmap_set.specs.{Contents.HasRoom, SetBulk.{Adds, AddsCopies, Extends, GrowsDistinct, RefusesAfter, RefusesCopiesAfter}};
 
 use crate::VecSet;
 use std::alloc::AllocError;

@@ -1,12 +1,9 @@
 //! Insertion of one element.
 ghost use Rattle.std.specs.Prelude.{◌≡◌, ◌+◌, ◌++◌, ◌∷◌, ◌<◌, ◌≤◌, ◌||◌, ◌⊎◌, Bool, Err, IfErr, IfOk, IfSome, IsTrue, None, Ok, OnErr, OnOk, Some, [], false, if◌then◌else◌, length, not, position, slice_get, true, unwrap_or};
-ghost use Rattle.std.specs.List.{IsDistinct, list_any};
-ghost use Rattle.std.specs.Set.{is_member};
-ghost use Rattle.vecmap_base.specs.Items.{item_index, stored_item};
-ghost use Rattle.vecmap_base.specs.Lookups.{UpdatesMember};
+ghost use Rattle.std.specs.{List.{IsDistinct, list_any}, Set.is_member};
+ghost use Rattle.vecmap_base.specs.{Items.{item_index, stored_item}, Lookups.UpdatesMember};
 ghost use Rattle.vecmap_set.specs.Contents.{Appends, FailsToAppend, HasRoom, IsFull, KeepsRoom, KeepsRoomAt, Refuses};
-ghost use Rattle.vecmap_set.specs.Indices.{KeepsMatchIndices};
-ghost use Rattle.vecmap_set.specs.Insertions.{AddsItem, PutsItem};
+ghost use Rattle.vecmap_set.specs.{Indices.KeepsMatchIndices, Insertions.{AddsItem, PutsItem}};
 
 use crate::VecSet;
 use std::alloc::AllocError;

@@ -3,8 +3,7 @@
 //! A contract sees an iterator as the list of its remaining items. Each iterator knows its exact length and yields
 //! items from both ends. After its last item it returns only `None`. Creating one takes constant time and does not
 //! allocate.
-ghost use Rattle.std.specs.List.{IsDistinct};
-ghost use Rattle.std.specs.Map.Iter.{deref};
+ghost use Rattle.std.specs.{List.IsDistinct, Map.Iter.deref};
 ghost use Rattle.vecmap_base.specs.Iterators.{GivesAll, ShowsAll};
 
 use crate::VecSet;

@@ -1,9 +1,7 @@
 //! Iterators over differences, intersections and unions of two sets, and the calls that create them.
 //!
 //! None of them allocates, and each yields from both ends. The lookups happen in the calls of `next`.
-ghost use Rattle.std.specs.Prelude.{◌≡◌, ℕ, ◌+◌};
-ghost use Rattle.std.specs.Set.{is_member};
-ghost use Rattle.std.specs.Slice.Iter.{iter_rest};
+ghost use Rattle.std.specs.{Prelude.{◌≡◌, ℕ, ◌+◌}, Set.is_member, Slice.Iter.iter_rest};
 ghost use Rattle.vecmap_set.specs.Lazy.{ExcludesAll, FiltersAll, FiltersFirst, FiltersLast, IsBound, JoinsAll, filtered_of, filtered_of_shorter, lacks_item, longer_first, presence, symmetric_parts};
 
 use crate::VecSet;

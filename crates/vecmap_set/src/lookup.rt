@@ -3,10 +3,8 @@
 //! A lookup by a query compares it with the elements in order, up to the first that matches, and of small elements with
 //! at most seven more: at most `len` comparisons in all. A lookup by index makes none.
 ghost use Rattle.std.specs.Prelude.{◌≡◌, ◌-◌, ◌<◌, IfSome, IsTrue, Some, is_some, length, nat_lt, option_copied, option_map, position, slice_get};
-ghost use Rattle.std.specs.List.{list_any};
-ghost use Rattle.std.specs.Set.{is_member};
-ghost use Rattle.vecmap_base.specs.Items.{item_index, stored_first};
-ghost use Rattle.vecmap_base.specs.Pairs.{has_text};
+ghost use Rattle.std.specs.{List.list_any, Set.is_member};
+ghost use Rattle.vecmap_base.specs.{Items.{item_index, stored_first}, Pairs.has_text};
 
 use crate::VecSet;
 use vecmap_base::{Equivalent, contains_equivalent, find_item_equivalent};

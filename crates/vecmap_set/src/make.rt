@@ -1,6 +1,5 @@
 //! Calls that create a set, and calls that return its slice, its vector or its allocator.
-ghost use Rattle.std.specs.Prelude.{◌≡◌, ◌≤◌, IfOk, IsOk, [], vec_capacity};
-ghost use Rattle.std.specs.List.{IsDistinct};
+ghost use Rattle.std.specs.{Prelude.{◌≡◌, ◌≤◌, IfOk, IsOk, [], vec_capacity}, List.IsDistinct};
 
 use crate::VecSet;
 use std::alloc::{AllocError, Global};

@@ -1,6 +1,5 @@
 //! The operators `&`, `|`, `^` and `-` on sets.
-ghost use Rattle.std.specs.Prelude.{◌≤◌, ◌&&◌, ◌||◌, IfOk, not};
-ghost use Rattle.std.specs.Iterator.{IsFinite};
+ghost use Rattle.std.specs.{Prelude.{◌≤◌, ◌&&◌, ◌||◌, IfOk, not}, Iterator.IsFinite};
 ghost use Rattle.vecmap_base.specs.Items.{both, only};
 ghost use Rattle.vecmap_set.specs.Operators.{ClonesStaySame, CombinesMembers, DrainsIntoClones, MakesClones, symmetric_difference_of, union_of};
 

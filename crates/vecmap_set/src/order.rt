@@ -1,6 +1,5 @@
 //! Reversing, moving, swapping and sorting the elements.
-ghost use Rattle.std.specs.Prelude.{◌≡◌, ◌<◌, ◌≤◌, IsOk, OnErr, OnOk, length};
-ghost use Rattle.std.specs.List.{IsDistinct};
+ghost use Rattle.std.specs.{Prelude.{◌≡◌, ◌<◌, ◌≤◌, IsOk, OnErr, OnOk, length}, List.IsDistinct};
 ghost use Rattle.std.specs.List.Sorted.{IsSorted, IsSortedByClosure, IsSortedByKeyClosure, IsStable, IsStableByClosure, IsStableByKeyClosure};
 ghost use Rattle.vecmap_base.specs.Items.{IsReorderedItems};
 ghost use Rattle.vecmap_set.specs.Reorders.{MovesItem, ReversesItems, SwapsItems};

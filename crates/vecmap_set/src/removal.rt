@@ -1,10 +1,7 @@
 //! Removal of elements.
 ghost use Rattle.std.specs.Prelude.{◌≡◌, ◌+◌, ◌<◌, ◌≤◌, ◌&&◌, ◌||◌, Bool, IfNone, IfOk, IfSome, IsOk, OnErr, OnOk, String, [], drop, false, length, string_eq};
-ghost use Rattle.std.specs.Fn.{TakesAt};
-ghost use Rattle.std.specs.List.{IsDistinct, list_any};
-ghost use Rattle.vecmap_base.specs.Asked.{CallableOnEach, CallsAtItem};
-ghost use Rattle.vecmap_base.specs.Kept.{Kept, ReturnsAt};
-ghost use Rattle.vecmap_base.specs.Pairs.{has_text};
+ghost use Rattle.std.specs.{Fn.TakesAt, List.{IsDistinct, list_any}};
+ghost use Rattle.vecmap_base.specs.{Asked.{CallableOnEach, CallsAtItem}, Kept.{Kept, ReturnsAt}, Pairs.has_text};
 ghost use Rattle.vecmap_set.specs.Removals.{FindsItem, KeepsFrontItems, RemovesItemAt, RemovesItemBy, RemovesLastItem, SwapRemovesItemAt, SwapRemovesItemBy, Takes};
 
 use crate::VecSet;

@@ -1,6 +1,5 @@
 //! The number of elements, and the capacity.
-ghost use Rattle.std.specs.Prelude.{◌≡◌, ◌<◌, ◌==◌, ◌^◌, ◌↔◌, ◌≤◌, IsTrue, [], length, min};
-ghost use Rattle.std.specs.List.{IsDistinct};
+ghost use Rattle.std.specs.{Prelude.{◌≡◌, ◌<◌, ◌==◌, ◌^◌, ◌↔◌, ◌≤◌, IsTrue, [], length, min}, List.IsDistinct};
 ghost use Rattle.vecmap_set.specs.Contents.{HasRoom, Reserves};
 
 use crate::VecSet;

@@ -1,11 +1,8 @@
 //! Binary searches in sorted elements. None allocates.
-ghost use Rattle.std.specs.Prelude.{◌≡◌, ◌<◌, ◌≤◌, Bool, IfOk, IsTrue, Some, false, is_ok, length, slice_get, true};
-ghost use Rattle.std.specs.List.{All, HoldsAt};
+ghost use Rattle.std.specs.{Prelude.{◌≡◌, ◌<◌, ◌≤◌, Bool, IfOk, IsTrue, Some, false, is_ok, length, slice_get, true}, List.{All, HoldsAt}};
 ghost use Rattle.std.specs.List.Sorted.{IsBinarySearchResult, IsPartitionPoint, IsPartitionedBy, IsSearchInRange, IsSorted};
-ghost use Rattle.std.specs.Set.{is_member};
-ghost use Rattle.std.specs.declared.cmp.Ordering.{Ordering};
-ghost use Rattle.vecmap_base.specs.Items.{item_index};
-ghost use Rattle.vecmap_base.specs.Orders.{CallableOnItem, ReturnsOnItems};
+ghost use Rattle.std.specs.{Set.is_member, declared.cmp.Ordering.Ordering};
+ghost use Rattle.vecmap_base.specs.{Items.item_index, Orders.{CallableOnItem, ReturnsOnItems}};
 
 use crate::VecSet;
 use std::cmp::Ordering;

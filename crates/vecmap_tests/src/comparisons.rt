@@ -1,7 +1,6 @@
 //! How often keys are compared and closures called. The keys and elements of a test case have more than 16 bytes and
 //! cannot be copied, and a counter is in contracts alone: these tests have keys of 8 and 16 bytes, and count by `==`.
-ghost use Rattle.std.specs.Prelude.{◌≡◌, nat_eq};
-ghost use Rattle.std.specs.Cmp.{nat_eq_equiv, partial_equiv_from_equiv};
+ghost use Rattle.std.specs.{Prelude.{◌≡◌, nat_eq}, Cmp.{nat_eq_equiv, partial_equiv_from_equiv}};
 
 use crate::checks::{assert_gives, assert_is, assert_prints};
 use std::alloc::{AllocError, Global};

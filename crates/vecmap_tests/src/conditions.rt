@@ -1,8 +1,6 @@
 //! Callers of calls with a precondition. Mutants in `must-fail` make a bug in each: the precondition is then not met.
-ghost use Rattle.std.specs.Prelude.{◌++◌, ◌≡◌, ◌≤◌, IfErr, IfOk, OnErr, OnOk, drop, length, slice_get, take};
-ghost use Rattle.std.specs.List.{IsDistinct};
-ghost use Rattle.vecmap.specs.Contents.{Refuses};
-ghost use Rattle.vecmap.specs.Pairs.{lookup, lookup_indexed, put_at};
+ghost use Rattle.std.specs.{Prelude.{◌++◌, ◌≡◌, ◌≤◌, IfErr, IfOk, OnErr, OnOk, drop, length, slice_get, take}, List.IsDistinct};
+ghost use Rattle.vecmap.specs.{Contents.Refuses, Pairs.{lookup, lookup_indexed, put_at}};
 
 use vecmap::{Refused, VecMap, VecSet};
 

@@ -1,6 +1,5 @@
 -- Elements that are equal to no element of a list, or to none before them.
-use Rattle.std.specs.Cmp.{IsEquivalence}
-use Rattle.std.specs.List.{IsDistinct, AllByRecursion, list_any}
+use Rattle.std.specs.{Cmp.IsEquivalence, List.{IsDistinct, AllByRecursion, list_any}}
 use Rattle.std.proofs.Common.{◌≡◌, Bool, false, ◌||◌, List, [], ◌∷◌, ◌++◌, refl, sym, ap, ◌∙◌, true≢false, inl, inr}
 use Rattle.std.proofs.lemmas.{Bool.cases_Bool, Map.Keys.IsDistinct-cons}
 

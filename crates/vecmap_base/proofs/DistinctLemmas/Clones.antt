@@ -1,6 +1,5 @@
 -- The clones of distinct elements, each equal to its original, are distinct.
-use Rattle.std.specs.Set.{ClonesAreEqual}
-use Rattle.std.specs.{Cmp.IsEquivalence, List.IsDistinct, List.AllByRecursion}
+use Rattle.std.specs.{Set.ClonesAreEqual, Cmp.IsEquivalence, List.IsDistinct, List.AllByRecursion}
 use Rattle.std.proofs.Common.{arith, ◌≡◌, Bool, false, List, [], ◌∷◌}
 use Rattle.vecmap_base.specs.Clones.{AreClones}
 

@@ -1,14 +1,11 @@
 -- The number of comparisons that a removal of duplicates makes.
-use Rattle.std.specs.Set.{is_member}
-use Rattle.std.specs.{Map.keys_of, Option.option_map_or}
+use Rattle.std.specs.{Set.is_member, Map.keys_of, Option.option_map_or}
 use Rattle.std.proofs.Common.{◌≡◌, ℕ, ◌+◌, ◌<◌, ◌≤◌, Bool, true, false, List, [], ◌∷◌, ◌++◌, None, Some, length, take, sym, ap, ◌∙◌, get_or, arith}
 use Rattle.std.proofs.lemmas.{Bool.cases_Bool, List.length-take, List.length_push, List.map-append, List.take_more, List.Quantifiers.position-Some, Map.Entries.length-keys_of}
 use Rattle.vecmap_base.specs.{Items.add, Items.adds, Items.item_index, Pairs.index_of, Pairs.puts}
 use Rattle.vecmap_base.specs.Comparisons.{adds_cost, comparisons, cost, search_cost}
-use Rattle.vecmap_base.proofs.ItemsLemmas.Additions.{add_absent, add_present}
-use Rattle.vecmap_base.proofs.PairsLemmas.Keys.{index_of_is, keys_of_puts}
-use Rattle.vecmap_base.proofs.IndexLemmas.{position_at, position_none}
-use Rattle.vecmap_base.proofs.DuplicatesLemmas.Cost.{cost_below, cost_more}
+use Rattle.vecmap_base.proofs.{ItemsLemmas.Additions.{add_absent, add_present}, PairsLemmas.Keys.{index_of_is, keys_of_puts}}
+use Rattle.vecmap_base.proofs.{IndexLemmas.{position_at, position_none}, DuplicatesLemmas.Cost.{cost_below, cost_more}}
 
 module _ {T : Type 0} (eq : T → T → Bool) where
   pub search_cost_found : (s : List T) (x : T) (i : ℕ) → item_index eq s x ≡ Some i → search_cost eq s x ≡ i + 1

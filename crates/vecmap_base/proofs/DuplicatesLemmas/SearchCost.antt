@@ -1,12 +1,8 @@
 -- The number of comparisons that a search by a test makes.
-use Rattle.std.specs.List.{list_any}
-use Rattle.std.specs.Map.{keys_of}
-use Rattle.std.specs.Option.{option_map, option_map_or}
+use Rattle.std.specs.{List.list_any, Map.keys_of, Option.{option_map, option_map_or}}
 use Rattle.std.proofs.Common.{◌≡◌, ℕ, zero, suc, ◌+◌, ◌<◌, Bool, true, false, true≢false, ◌||◌, cond, if◌then◌else◌, List, [], ◌∷◌, Option, None, Some, length, position, take, refl, sym, ap, ◌∙◌, get_or, arith, inl, inr}
-use Rattle.std.proofs.lemmas.Bool.{cases_Bool}
-use Rattle.std.proofs.lemmas.Map.Entries.{length-keys_of}
-use Rattle.vecmap_base.specs.Pairs.{index_by}
-use Rattle.vecmap_base.specs.Comparisons.{search_cost_by}
+use Rattle.std.proofs.{lemmas.Bool.cases_Bool, lemmas.Map.Entries.length-keys_of}
+use Rattle.vecmap_base.specs.{Pairs.index_by, Comparisons.search_cost_by}
 use Rattle.vecmap_base.proofs.IndexLemmas.{position_at, position_cons, position_none}
 
 module _ {X : Type 0} (p : X → Bool) where

@@ -1,12 +1,9 @@
 -- How often elements occur in a list, up to an equivalence.
 use Rattle.std.specs.Prelude.{◌≡◌, ℕ, ◌+◌, ◌<◌, Bool, true, false, ◌&&◌, ◌||◌, nat_eq, List, [], ◌∷◌, length, remove, refl}
-use Rattle.std.specs.Cmp.{IsEquivalence, both_ways}
-use Rattle.std.specs.List.{count_by, list_all, list_any}
-use Rattle.std.proofs.Common.{cond, get_or, sym, ap, ◌∙◌, arith, true≢false, inl, inr}
+use Rattle.std.specs.{Cmp.{IsEquivalence, both_ways}, List.{count_by, list_all, list_any}}
+use Rattle.std.proofs.{Common.{cond, get_or, sym, ap, ◌∙◌, arith, true≢false, inl, inr}, lemmas.List.Edits.length-remove}
 use Rattle.std.proofs.lemmas.Bool.{and_from, and_parts, cases_Bool, eq-eqb, eqb-true, false_from_ne_true, or_left, or_parts, or_right}
-use Rattle.std.proofs.lemmas.List.Edits.{length-remove}
-use Rattle.std.proofs.lemmas.List.Folds.{Any-from_list_any}
-use Rattle.std.proofs.lemmas.List.Sums.{sum_by-cons, sum_by-remove}
+use Rattle.std.proofs.{lemmas.List.Folds.Any-from_list_any, lemmas.List.Sums.{sum_by-cons, sum_by-remove}}
 
 module _ {X : Type 0} (same : X → X → Bool) (o : IsEquivalence same) where
   abbrev pub many : List X → X → ℕ

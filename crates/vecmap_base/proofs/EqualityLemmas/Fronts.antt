@@ -1,9 +1,7 @@
 -- Equal pairs at the front of two lists do not decide whether the lists are equal as maps.
-use Rattle.std.specs.Prelude.{◌≡◌, ℕ, zero, suc, Bool, true, List, [], ◌∷◌, drop, take, refl}
+use Rattle.std.specs.{Prelude.{◌≡◌, ℕ, zero, suc, Bool, true, List, [], ◌∷◌, drop, take, refl}, List.AllZip}
 use Rattle.std.specs.Cmp.{IsEquivalence, IsPartialEquivalence, both_ways}
-use Rattle.std.specs.List.{AllZip}
-use Rattle.std.proofs.Common.{◌∙◌, arith}
-use Rattle.std.proofs.lemmas.Bool.{and_from, and_parts}
+use Rattle.std.proofs.{Common.{◌∙◌, arith}, lemmas.Bool.{and_from, and_parts}}
 use Rattle.vecmap_base.specs.Equality.{has_same_counts, same_pair}
 use Rattle.vecmap_base.proofs.EqualityLemmas.Counts.{SameCounts, many_cons, counts_from_test, test_from_counts}
 use Rattle.vecmap_base.proofs.EqualityLemmas.Partial.{alike, all_reflexive, equally_often, from_alike, lumped, lumped_if_same, lumped_laws, same_pair_partial, self_left, self_right}

@@ -1,10 +1,6 @@
 -- The laws of the equality of maps. They hold of all lists of pairs, also with duplicate keys.
-use Rattle.std.specs.Prelude.{◌≡◌, Bool, IsTrue, List}
-use Rattle.std.specs.Cmp.{IsEquivalence, equiv, partial_equiv_from_equiv}
-use Rattle.std.specs.List.Sorted.{IsPermutation}
-use Rattle.std.proofs.Common.{arith, ◌∙◌}
-use Rattle.std.proofs.lemmas.Bool.{and_from, and_parts}
-use Rattle.std.proofs.lemmas.List.Sorted.{sum_by-IsPermutation}
+use Rattle.std.specs.{Prelude.{◌≡◌, Bool, IsTrue, List}, Cmp.{IsEquivalence, equiv, partial_equiv_from_equiv}, List.Sorted.IsPermutation}
+use Rattle.std.proofs.{Common.{arith, ◌∙◌}, lemmas.Bool.{and_from, and_parts}, lemmas.List.Sorted.sum_by-IsPermutation}
 use Rattle.vecmap_base.specs.Equality.{has_same_counts, same_pair}
 use Rattle.vecmap_base.proofs.EqualityLemmas.Counts.{as_often, as_often_laws, test_from_counts}
 use Rattle.vecmap_base.proofs.EqualityLemmas.Partial.{equally_often_is, partial_map_equality_laws}

@@ -3,9 +3,8 @@
 use Rattle.std.specs.Prelude.{◌≡◌, ℕ, ◌<◌, Bool, true, false, ◌&&◌, ◌||◌, not, nat_eq, List, [], ◌∷◌, length, refl}
 use Rattle.std.specs.Cmp.{IsEquivalence, IsPartialEquivalence, both_ways, equiv, and_per, on_per, partial_equiv_from_equiv}
 use Rattle.std.specs.List.{count_by, list_all, list_any}
-use Rattle.std.proofs.Common.{cond, get_or, sym, ap, ◌∙◌, arith, true≢false, inl, inr}
+use Rattle.std.proofs.{Common.{cond, get_or, sym, ap, ◌∙◌, arith, true≢false, inl, inr}, lemmas.List.Folds.list_all_at}
 use Rattle.std.proofs.lemmas.Bool.{and_from, and_parts, cases_Bool, eq-eqb, ne_eqb, false_from_ne_true, or_left, or_right}
-use Rattle.std.proofs.lemmas.List.Folds.{list_all_at}
 use Rattle.std.proofs.lemmas.List.Sums.{sum_by-cons}
 use Rattle.vecmap_base.specs.Equality.{counts_agree, has_same_counts, same_pair}
 use Rattle.vecmap_base.proofs.EqualityLemmas.Counts.{SameCounts, all_agree, as_often, as_often_laws, counts_from_test, lengths_differ, many_absent, many_present, settled_by_half}

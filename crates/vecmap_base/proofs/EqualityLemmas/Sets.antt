@@ -1,14 +1,9 @@
 -- The laws of the equality of sets, and of one set within another.
-use Rattle.std.specs.Prelude.{◌≡◌, ◌<◌, ◌≤◌, Bool, true, false, ◌||◌, List, [], ◌∷◌, ◌++◌, length, refl}
-use Rattle.std.specs.Cmp.{IsEquivalence}
+use Rattle.std.specs.{Prelude.{◌≡◌, ◌<◌, ◌≤◌, Bool, true, false, ◌||◌, List, [], ◌∷◌, ◌++◌, length, refl}, Cmp.IsEquivalence, Set.is_member}
 use Rattle.std.specs.List.{IsDistinct}
-use Rattle.std.specs.Set.{is_member}
-use Rattle.std.proofs.Common.{sym, ap, ◌∙◌, arith, true≢false, length-append, inl, inr}
+use Rattle.std.proofs.{Common.{sym, ap, ◌∙◌, arith, true≢false, length-append, inl, inr}, lemmas.List.Folds.list_any-append}
 use Rattle.std.proofs.lemmas.Bool.{and_from, and_parts, cases_Bool, false_from_ne_true, or_cases, or_left, or_right}
-use Rattle.std.proofs.lemmas.List.Folds.{list_any-append}
-use Rattle.std.proofs.lemmas.Map.Keys.{IsDistinct-push}
-use Rattle.std.proofs.lemmas.Map.Made.{length-le_from_is_member}
-use Rattle.std.proofs.lemmas.Map.Steps.{list_any_congr}
+use Rattle.std.proofs.{lemmas.Map.Keys.IsDistinct-push, lemmas.Map.Made.length-le_from_is_member, lemmas.Map.Steps.list_any_congr}
 use Rattle.vecmap_base.specs.Equality.{has_same_items, is_within}
 
 module _ {T : Type 0} (eq : T → T → Bool) (o : IsEquivalence eq) where

@@ -1,17 +1,13 @@
 -- Which elements are present after a replacement, after the removal of the last element, in the front of a list and in
 -- clones, as contracts say it.
-use Rattle.std.specs.{Cmp.IsEquivalence, List.IsDistinct, List.list_any, Map.AreApart, Set.is_member}
-use Rattle.std.specs.Prelude.{IfSome, nat_lt}
+use Rattle.std.specs.{Cmp.IsEquivalence, List.IsDistinct, List.list_any, Map.AreApart, Set.is_member, Prelude.{IfSome, nat_lt}}
 use Rattle.std.specs.Option.{option_map_or, option_to_list}
 use Rattle.std.proofs.Common.{◌≡◌, ◌∙◌, ◌&&◌, ◌||◌, ℕ, suc, zero, Bool, true, false, Contains, IsTrue, List, [], ◌∷◌, ◌++◌, None, Option, Some, ap, arith, drop, is_some, length, option_map, position, refl, remove, slice_get, slice_set, subst, sym, take, unwrap_or, inl, inr}
-use Rattle.std.proofs.lemmas.Bool.Decides.{nat_tests}
-use Rattle.std.proofs.lemmas.List.{length-set, take-append-drop, take-set-le}
+use Rattle.std.proofs.{lemmas.Bool.Decides.nat_tests, lemmas.List.{length-set, take-append-drop, take-set-le}, lemmas.Option.none-some}
 use Rattle.std.proofs.lemmas.List.Folds.{list_any-append}
-use Rattle.std.proofs.lemmas.Option.{none-some}
 use Rattle.vecmap_base.specs.{Clones.AreClones, Items.put_item, Lookups.UpdatesMember}
-use Rattle.vecmap_base.proofs.IndexLemmas.{list_any_position, position_cons}
+use Rattle.vecmap_base.proofs.{IndexLemmas.{list_any_position, position_cons}, IndexLemmas.{remove_last, slice_get_last}}
 use Rattle.vecmap_base.proofs.ItemsLemmas.{Members.members_from, Members.members_removed, Recursion.put_item_cons, Members.before_own, Members.Grows, Members.KeepsBefore}
-use Rattle.vecmap_base.proofs.IndexLemmas.{remove_last, slice_get_last}
 use Rattle.vecmap_base.proofs.TakenLemmas.{taken_by_shift}
 
 module _ {T : Type 0} (test : T → Bool) where

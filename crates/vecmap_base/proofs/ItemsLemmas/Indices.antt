@@ -1,7 +1,6 @@
 -- The index of an element in the rest of a list.
-use Rattle.std.proofs.Common.{◌≡◌, ℕ, Bool, List, length, ap, ◌∙◌, ◌-◌, drop, is_some, take}
+use Rattle.std.proofs.{Common.{◌≡◌, ℕ, Bool, List, length, ap, ◌∙◌, ◌-◌, drop, is_some, take}, lemmas.List.take_rest}
 use Rattle.std.specs.List.{list_any}
-use Rattle.std.proofs.lemmas.List.{take_rest}
 use Rattle.vecmap_base.specs.Items.{item_index}
 use Rattle.vecmap_base.proofs.IndexLemmas.{is_some_position}
 

@@ -1,21 +1,14 @@
 -- Which elements are present after an addition and after a removal, in the words of contracts.
-use Rattle.std.proofs.lemmas.Grind.{common_steps}
+use Rattle.std.proofs.{lemmas.Grind.common_steps, lemmas.Bool.{cases_Bool, cases_lt}, lemmas.List.Folds.list_any-append}
 use Rattle.std.specs.{Cmp.IsEquivalence, List.IsDistinct, List.list_any, List.Sorted.IsPermutation, Map.AreApart, Map.IsKeyTest}
 use Rattle.std.specs.Set.{is_member, KeepsOthers}
 use Rattle.std.proofs.Common.{◌≡◌, ◌∙◌, ◌||◌, ◌++◌, ◌+◌, ◌<◌, ◌≤◌, ◌⊎◌, ℕ, Bool, true, false, List, [], ◌∷◌, None, Some, ap, arith, inl, inr, is_some, length, length-append, position, refl, slice_get, subst, sym, take, true≢false}
-use Rattle.std.proofs.lemmas.Bool.{cases_Bool, cases_lt}
-use Rattle.std.proofs.lemmas.List.Folds.{list_any-append}
-use Rattle.std.proofs.lemmas.List.Quantifiers.{position-Some}
-use Rattle.std.proofs.lemmas.List.Sorted.{list_any-IsPermutation}
-use Rattle.std.proofs.lemmas.Map.Keys.{IsDistinct-head}
+use Rattle.std.proofs.{lemmas.List.Quantifiers.position-Some, lemmas.List.Sorted.list_any-IsPermutation, lemmas.Map.Keys.IsDistinct-head}
 use Rattle.std.proofs.lemmas.Option.{get_or_from_slice_get}
-use Rattle.vecmap_base.specs.Items.{add, adds}
-use Rattle.vecmap_base.specs.Lookups.{UpdatesMember}
-use Rattle.vecmap_base.proofs.DistinctLemmas.{Absent.none_equal, Order.distinct_rearranged}
+use Rattle.vecmap_base.specs.{Items.{add, adds}, Lookups.UpdatesMember}
+use Rattle.vecmap_base.proofs.{DistinctLemmas.{Absent.none_equal, Order.distinct_rearranged}, PairsLemmas.Lookups.compares_with}
 use Rattle.vecmap_base.proofs.IndexLemmas.{list_any_position, position_appended, position_before, position_front, position_none, stored_last}
-use Rattle.vecmap_base.proofs.ItemsLemmas.Additions.{add_absent, add_present}
-use Rattle.vecmap_base.proofs.PairsLemmas.Lookups.{compares_with}
-use Rattle.vecmap_base.proofs.TakenLemmas.{TakesAt, TakesFirst}
+use Rattle.vecmap_base.proofs.{ItemsLemmas.Additions.{add_absent, add_present}, TakenLemmas.{TakesAt, TakesFirst}}
 
 or_false : (b : Bool) → (b || false) ≡ b
 or_false true = refl

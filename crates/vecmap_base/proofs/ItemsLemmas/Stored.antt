@@ -1,8 +1,6 @@
 -- An element at an index is present.
-use Rattle.std.specs.{Borrow.Bor, Cmp.IsEquivalence, Set.is_member}
-use Rattle.std.specs.Prelude.{IfSome, option_copied}
-use Rattle.std.proofs.Common.{◌≡◌, ℕ, Bool, true, IsTrue, List, None, Option, Some, slice_get, sym}
-use Rattle.std.proofs.lemmas.Map.Keys.{any_passes_from_place}
+use Rattle.std.specs.{Borrow.Bor, Cmp.IsEquivalence, Set.is_member, Prelude.{IfSome, option_copied}}
+use Rattle.std.proofs.{Common.{◌≡◌, ℕ, Bool, true, IsTrue, List, None, Option, Some, slice_get, sym}, lemmas.Map.Keys.any_passes_from_place}
 
 module _ {T : Type 0} (eq : T → T → Bool) (o : IsEquivalence eq) where
   pub present_at : (s : List T) (i : ℕ) (x : T) → slice_get s i ≡ Some x → is_member eq s x ≡ true

@@ -1,14 +1,11 @@
 -- At which indices keys are after a change, in the words of contracts.
 use Rattle.std.specs.{Cmp.IsEquivalence, List.AllByRecursion, List.Sorted.IsPermutation, Map.IsKeyTest, Map.keys_of}
 use Rattle.std.proofs.Common.{◌≡◌, ◌∙◌, ◌-◌, ◌<◌, ◌++◌, ℕ, zero, suc, Bool, true, false, List, [], ◌∷◌, None, Option, Some, IfSome, ap, arith, drop, if◌then◌else◌, is_some, map, option_map, refl, remove, slice_get, subst, sym, take}
-use Rattle.std.proofs.lemmas.List.{drop-map, length-map, map-append, take-map}
-use Rattle.std.proofs.lemmas.Map.Keys.{IsDistinct-head, IsDistinct-tail}
-use Rattle.std.proofs.lemmas.Option.{none-some, same_Some}
+use Rattle.std.proofs.{lemmas.List.{drop-map, length-map, map-append, take-map}, lemmas.Map.Keys.{IsDistinct-head, IsDistinct-tail}}
+use Rattle.std.proofs.{lemmas.Option.{none-some, same_Some}, lemmas.Map.Entries.lookup_from_place}
 use Rattle.vecmap_base.specs.{Indices.HasMatchAt, Indices.IsFoundAt, Indices.KeepsIndices, Indices.MovesIndex, Indices.ShiftsIndices}
 use Rattle.vecmap_base.specs.Pairs.{HasDistinctKeys, index_by, lookup_by, without_by}
-use Rattle.std.proofs.lemmas.Map.Entries.{lookup_from_place}
-use Rattle.vecmap_base.proofs.PairsLemmas.ByIndex.{lookup_by_index, without_by_index}
-use Rattle.vecmap_base.proofs.PairsLemmas.Distinct.{distinct_keys_rearranged}
+use Rattle.vecmap_base.proofs.{PairsLemmas.ByIndex.{lookup_by_index, without_by_index}, PairsLemmas.Distinct.distinct_keys_rearranged}
 
 -- Without the item at an index: the items before it stay, and so do the results of a function of each other item.
 front_removed : {X : Type 0} (l : List X) (i j : ℕ) → j < i → slice_get (remove l i) j ≡ slice_get l j

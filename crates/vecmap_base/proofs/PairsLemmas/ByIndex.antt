@@ -1,12 +1,10 @@
 -- The definitions on pairs that are by recursion, by the index of the first key that passes a test.
-use Rattle.std.specs.Map.{set_value}
-use Rattle.std.specs.Option.{option_map, option_map_or, option_and_then}
+use Rattle.std.specs.{Map.set_value, Option.{option_map, option_map_or, option_and_then}}
 use Rattle.std.proofs.Common.{arith, ◌≡◌, ℕ, suc, Bool, true, false, List, [], ◌∷◌, ◌++◌, Option, None, Some, if◌then◌else◌, refl, ap, ◌∙◌, sym, get_or, is_some, length, position, remove, set, slice_get, slice_set, swap_remove, true≢false, ◌<◌}
 use Rattle.std.proofs.lemmas.Option.{slice_get-get_or}
 use Rattle.vecmap_base.specs.Items.{swap_without}
 use Rattle.vecmap_base.specs.Pairs.{index_by, index_of, lookup_by, lookup_pair_by, put, put_key, swap_without_by, value_at, with_pair, with_value, without_by}
-use Rattle.vecmap_base.proofs.IndexLemmas.{position_appended, position_cons}
-use Rattle.vecmap_base.proofs.PairsLemmas.Values.{with_value_cons}
+use Rattle.vecmap_base.proofs.{IndexLemmas.{position_appended, position_cons}, PairsLemmas.Values.with_value_cons}
 
 module _ {K V : Type 0} (test : K → Bool) where
   -- The index is the one of std's lists.

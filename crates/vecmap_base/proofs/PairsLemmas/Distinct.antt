@@ -1,11 +1,8 @@
 -- Keys that are distinct stay distinct in the lists that single changes leave.
 use Rattle.std.specs.{Cmp.IsEquivalence, List.IsDistinct, List.Sorted.IsPermutation, List.swap_remove, Map.keys_of, Map.set_value, Option.option_map_or}
 use Rattle.std.proofs.Common.{arith, ◌≡◌, ◌∙◌, ℕ, suc, Bool, List, ◌∷◌, None, Option, Some, drop, get_or, refl, remove, slice_get, subst, sym, take, ◌++◌}
-use Rattle.std.proofs.lemmas.List.{drop-map, map-append, take-map}
-use Rattle.std.proofs.lemmas.List.Sorted.{IsPermutation-map, IsPermutation-swap_remove}
-use Rattle.std.proofs.lemmas.Map.{keys-set_value}
-use Rattle.std.proofs.lemmas.Map.Keys.{IsDistinct-tail}
-use Rattle.std.proofs.lemmas.Option.{get_or_from_slice_get, slice_get_within}
+use Rattle.std.proofs.{lemmas.List.{drop-map, map-append, take-map}, lemmas.List.Sorted.{IsPermutation-map, IsPermutation-swap_remove}}
+use Rattle.std.proofs.{lemmas.Map.keys-set_value, lemmas.Map.Keys.IsDistinct-tail, lemmas.Option.{get_or_from_slice_get, slice_get_within}}
 use Rattle.vecmap_base.specs.{Items.swap_without, Pairs.HasDistinctKeys, Pairs.put, Pairs.swap_without_by, Pairs.without_by}
 use Rattle.vecmap_base.proofs.DistinctLemmas.{Additions.distinct_add, Order.distinct_rearranged, Removals.distinct_remove}
 use Rattle.vecmap_base.proofs.PairsLemmas.{ByIndex.without_by_index, Keys.keys_of_put}

@@ -1,8 +1,7 @@
 -- What lookups find in the pairs that a closure has kept.
 use Rattle.std.specs.{List.AllByRecursion, List.IsDistinct, Map.IsKeyTest, Map.keys_of, Option.option_and_then}
 use Rattle.std.proofs.Common.{arith, ◌≡◌, ◌∙◌, Bool, true, false, List, [], ◌∷◌, None, Option, Some, ap, cond, if◌then◌else◌, inl, inr, refl, subst, sym}
-use Rattle.std.proofs.lemmas.Bool.{cases_Bool}
-use Rattle.std.proofs.lemmas.Map.Keys.{IsDistinct-head, IsDistinct-tail}
+use Rattle.std.proofs.{lemmas.Bool.cases_Bool, lemmas.Map.Keys.{IsDistinct-head, IsDistinct-tail}}
 use Rattle.vecmap_base.specs.{Kept.FiltersValues, Kept.KeepsKeys, Kept.Kept, Kept.ReturnsAtKey, Pairs.HasDistinctKeys, Pairs.lookup_by}
 
 module _ {F K V : Type 0} (R : F → K × V → Bool → K × V → F → Type 0) (same : KeepsKeys R) where

@@ -2,9 +2,8 @@
 use Rattle.std.specs.{Option.option_map, List.list_any, Map.keys_of}
 use Rattle.std.proofs.Common.{◌≡◌, ℕ, Bool, List, length, ◌-◌, drop, is_some, take, ap, ◌∙◌, sym}
 use Rattle.vecmap_base.specs.Pairs.{index_of, lookup_by, map_values}
-use Rattle.vecmap_base.proofs.PairsLemmas.ByIndex.{index_by_is}
+use Rattle.vecmap_base.proofs.{PairsLemmas.ByIndex.index_by_is, IndexLemmas.{is_some_position, list_any_map}}
 use Rattle.std.proofs.lemmas.{List.drop-map, List.take_rest, Map.Made.lookup-map_values}
-use Rattle.vecmap_base.proofs.IndexLemmas.{is_some_position, list_any_map}
 
 module _ {K V W : Type 0} (g : V → W) where
   -- In the list with `g` of each value, a lookup finds `g` of what it found before.

@@ -3,8 +3,7 @@ use Rattle.std.specs.{Map.keys_of, Option.option_map}
 use Rattle.std.proofs.Common.{arith, ◌≡◌, ℕ, suc, Bool, List, [], ◌∷◌, ◌++◌, Some, drop, if◌then◌else◌, insert, refl, reverse, sym, take, ap, ◌∙◌}
 use Rattle.std.proofs.lemmas.List.{drop-map, map-append, reverse-append, take-map}
 use Rattle.vecmap_base.specs.{Items.add, Items.adds, Items.item_index, Pairs.index_of, Pairs.put, Pairs.puts}
-use Rattle.vecmap_base.proofs.ItemsLemmas.Recursion.{add_cons, item_index_cons}
-use Rattle.vecmap_base.proofs.PairsLemmas.Recursion.{index_of_cons, put_cons}
+use Rattle.vecmap_base.proofs.{ItemsLemmas.Recursion.{add_cons, item_index_cons}, PairsLemmas.Recursion.{index_of_cons, put_cons}}
 
 module _ {K V : Type 0} where
   pub keys_of_insert : (l : List (K × V)) (i : ℕ) (k : K) (v : V) → keys_of (insert l i (k, v)) ≡ insert (keys_of l) i k

@@ -1,13 +1,9 @@
 -- What lookups find after an insertion and after a removal, by keys and by queries.
 use Rattle.std.specs.{Cmp.IsEquivalence, Map.IsKeyTest, Map.KeepsOthers}
 use Rattle.std.proofs.Common.{arith, ◌≡◌, Bool, true, List, [], ◌∷◌, None, Some, ap, cond, inl, inr, refl, subst, sym, ◌∙◌}
-use Rattle.std.proofs.lemmas.Bool.{cases_Bool}
-use Rattle.std.proofs.lemmas.Map.{lookup-none}
-use Rattle.std.proofs.lemmas.Map.Entries.{none_past_head}
-use Rattle.std.proofs.lemmas.Map.Keys.{IsDistinct-tail}
+use Rattle.std.proofs.{lemmas.Bool.cases_Bool, lemmas.Map.lookup-none, lemmas.Map.Entries.none_past_head, lemmas.Map.Keys.IsDistinct-tail}
 use Rattle.std.proofs.lemmas.Option.{none-some}
-use Rattle.vecmap_base.specs.Lookups.{UpdatesBy}
-use Rattle.vecmap_base.specs.Pairs.{HasDistinctKeys, lookup_by, put, without_by}
+use Rattle.vecmap_base.specs.{Lookups.UpdatesBy, Pairs.{HasDistinctKeys, lookup_by, put, without_by}}
 use Rattle.vecmap_base.proofs.PairsLemmas.Distinct.{distinct_put}
 
 module _ {K : Type 0} (eq : K → K → Bool) (o : IsEquivalence eq) (test : K → Bool) (respects : IsKeyTest eq test) where

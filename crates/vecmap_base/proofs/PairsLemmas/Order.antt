@@ -2,10 +2,8 @@
 -- there is one such pair in any order.
 use Rattle.std.specs.{Cmp.IsEquivalence, List.Sorted.IsPermutation, Map.IsKeyTest}
 use Rattle.std.proofs.Common.{◌≡◌, ◌∙◌, Bool, Contains, List, [], ◌∷◌, Some, ap, arith, cond, inl, inr, refl, suc, sym, true}
-use Rattle.std.proofs.lemmas.Bool.{cases_Bool}
-use Rattle.std.proofs.lemmas.List.Sorted.{Contains-permutation, IsPermutation-sym}
-use Rattle.std.proofs.lemmas.Map.Entries.{lookup_from_place}
-use Rattle.std.proofs.lemmas.Option.{none-some, same_Some, slice_get-get_or}
+use Rattle.std.proofs.{lemmas.Bool.cases_Bool, lemmas.List.Sorted.{Contains-permutation, IsPermutation-sym}}
+use Rattle.std.proofs.{lemmas.Map.Entries.lookup_from_place, lemmas.Option.{none-some, same_Some, slice_get-get_or}}
 use Rattle.vecmap_base.specs.Pairs.{HasDistinctKeys, lookup_by}
 use Rattle.vecmap_base.proofs.PairsLemmas.{Distinct.distinct_keys_rearranged, Lookups.compares_with}
 

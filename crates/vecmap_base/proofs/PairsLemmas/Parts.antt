@@ -1,17 +1,11 @@
 -- What lookups find in the front of a list, after the insertions of many pairs, and whether anything matches in another order.
 use Rattle.std.specs.{Cmp.IsEquivalence, List.IsDistinct, List.Sorted.IsPermutation, Map.keys_of, Option.option_map, Option.option_or}
 use Rattle.std.proofs.Common.{◌≡◌, ◌∙◌, ◌<◌, ◌≤◌, ℕ, zero, suc, Bool, true, false, List, [], ◌∷◌, ◌++◌, None, Option, Some, ap, arith, cond, if◌then◌else◌, inl, inr, drop, is_some, refl, subst, sym, take}
-use Rattle.std.proofs.lemmas.Bool.{cases_Bool}
-use Rattle.std.proofs.lemmas.List.{length-take, map-append, take-append-drop, take-map, append-nil, append_assoc}
-use Rattle.std.proofs.lemmas.List.Sorted.{list_any-IsPermutation, IsPermutation-append_comm}
-use Rattle.std.proofs.lemmas.Map.{lookup-none}
-use Rattle.std.proofs.lemmas.Map.Entries.{none_past_head}
-use Rattle.std.proofs.lemmas.Map.Keys.{IsDistinct-tail}
-use Rattle.std.proofs.lemmas.Option.{none-some, same_Some}
-use Rattle.vecmap_base.specs.{Lookups.Joins, Lookups.KeepsFront}
-use Rattle.vecmap_base.specs.Pairs.{HasDistinctKeys, index_by, lookup, lookup_by, put, puts}
-use Rattle.vecmap_base.proofs.DistinctLemmas.Removals.{distinct_front, distinct_take}
-use Rattle.vecmap_base.proofs.IndexLemmas.{is_some_position}
+use Rattle.std.proofs.{lemmas.Bool.cases_Bool, lemmas.List.{length-take, map-append, take-append-drop, take-map, append-nil, append_assoc}}
+use Rattle.std.proofs.{lemmas.List.Sorted.{list_any-IsPermutation, IsPermutation-append_comm}, lemmas.Map.lookup-none}
+use Rattle.std.proofs.{lemmas.Map.Entries.none_past_head, lemmas.Map.Keys.IsDistinct-tail, lemmas.Option.{none-some, same_Some}}
+use Rattle.vecmap_base.specs.{Lookups.Joins, Lookups.KeepsFront, Pairs.{HasDistinctKeys, index_by, lookup, lookup_by, put, puts}}
+use Rattle.vecmap_base.proofs.{DistinctLemmas.Removals.{distinct_front, distinct_take}, IndexLemmas.is_some_position}
 use Rattle.vecmap_base.proofs.InsertionLemmas.{indices_put}
 use Rattle.vecmap_base.proofs.PairsLemmas.{AtIndices.index_in_front, ByIndex.index_by_is, ByIndex.index_by_none, Distinct.distinct_keys_rearranged, Distinct.distinct_put, Lookups.updates_put, Puts.length_puts_at_most, Puts.put_absent, Puts.puts_not_empty}
 

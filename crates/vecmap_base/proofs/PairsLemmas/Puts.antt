@@ -3,8 +3,7 @@ use Rattle.std.specs.Option.{option_and_then, option_map_or}
 use Rattle.std.proofs.Common.{◌≡◌, ℕ, ◌+◌, Bool, List, [], ◌∷◌, ◌++◌, None, Option, Some, arith, length, refl, ◌<◌, ◌≤◌, take, ap, ◌∙◌, get_or, unwrap_or}
 use Rattle.std.proofs.lemmas.List.Sums.{fold_more}
 use Rattle.vecmap_base.specs.Pairs.{index_of, lookup, put, puts, value_at, with_value}
-use Rattle.vecmap_base.proofs.PairsLemmas.ByIndex.{lookup_by_index, put_by_index}
-use Rattle.vecmap_base.proofs.PairsLemmas.Values.{with_own_value}
+use Rattle.vecmap_base.proofs.{PairsLemmas.ByIndex.{lookup_by_index, put_by_index}, PairsLemmas.Values.with_own_value}
 
 module _ {K V : Type 0} (eq : K → K → Bool) where
   pub put_absent : (l : List (K × V)) (k : K) (v : V) → index_of eq l k ≡ None → put eq l k v ≡ l ++ (k, v) ∷ []

@@ -1,16 +1,13 @@
 -- A list of pairs in another order, in the words of contracts.
 use Rattle.std.specs.Prelude.{◌≡◌, ◌-◌, ◌<◌, ℕ, Bool, List, Some, false, length, nat_eq, reverse, suc, swap}
 use Rattle.std.specs.{Cmp.IsEquivalence, List.Sorted.IsPermutation, Map.IsKeyTest, Map.keys_of}
-use Rattle.std.proofs.Common.{◌∙◌, ap, arith, subst, sym}
-use Rattle.std.proofs.lemmas.Option.{slice_get_within}
+use Rattle.std.proofs.{Common.{◌∙◌, ap, arith, subst, sym}, lemmas.Option.slice_get_within}
 use Rattle.std.proofs.lemmas.List.Sorted.{IsPermutation-reverse, IsPermutation-swap, length_permutation}
 use Rattle.vecmap_base.specs.{Indices.MovesIndex, Items.moved, Lookups.IsReordered, Reorders.MovesPair, Reorders.ReversesPairs, Reorders.SwapsPairs}
 use Rattle.vecmap_base.specs.Pairs.{HasDistinctKeys, index_by}
-use Rattle.vecmap_base.proofs.EqualityLemmas.Maps.{equal_rearranged}
+use Rattle.vecmap_base.proofs.{EqualityLemmas.Maps.equal_rearranged, PairsLemmas.AtIndices.{match_at, moves_index, stays_in_front}}
 use Rattle.vecmap_base.proofs.MoveLemmas.{at_reversed, moved_item, moved_other, swapped_item, swapped_item_back, swapped_other}
-use Rattle.vecmap_base.proofs.PairsLemmas.AtIndices.{match_at, moves_index, stays_in_front}
-use Rattle.vecmap_base.proofs.PairsLemmas.Keys.{keys_of_reverse}
-use Rattle.vecmap_base.proofs.PairsLemmas.Parts.{matches_rearranged}
+use Rattle.vecmap_base.proofs.{PairsLemmas.Keys.keys_of_reverse, PairsLemmas.Parts.matches_rearranged}
 use Rattle.vecmap_base.proofs.PairsLemmas.Updates.{lookups_rearranged}
 
 module _ {K V : Type 0} (l m : List (K × V)) where

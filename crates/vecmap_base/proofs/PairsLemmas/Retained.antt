@@ -1,7 +1,6 @@
 -- What a closure leaves of a list of pairs: how many, which if it only tests them, and all if it keeps all.
 use Rattle.std.proofs.Common.{◌≡◌, ◌∙◌, ◌≤◌, Bool, true, List, [], ◌∷◌, None, Some, ap, arith, cond, filter, if◌then◌else◌, inl, inr, length, not, subst, sym}
-use Rattle.std.proofs.lemmas.Bool.{cases_Bool}
-use Rattle.std.proofs.lemmas.Option.{none-some}
+use Rattle.std.proofs.{lemmas.Bool.cases_Bool, lemmas.Option.none-some}
 use Rattle.vecmap_base.specs.{Kept.KeepsKeys, Kept.Kept, Kept.Retains, Kept.ReturnsAtKey, Kept.TestsItems, Pairs.lookup_by}
 
 module _ {F X : Type 0} (R : F → X → Bool → X → F → Type 0) where

@@ -1,14 +1,10 @@
 -- What a binary search of a list of pairs says of its key: whether it is present, if the keys ascend, and where it is.
-use Rattle.std.specs.{Cmp.IsEquivalence, Cmp.IsTotalOrder, Option.option_and_then}
+use Rattle.std.specs.{Cmp.IsEquivalence, Cmp.IsTotalOrder, Option.option_and_then, Ordering.is_eq, declared.cmp.Ordering.Ordering}
 use Rattle.std.specs.Prelude.{◌≡◌, ℕ, Bool, Err, IfOk, List, [], ◌∷◌, Ok, Result, Some, is_ok, is_some, length, true}
 use Rattle.std.specs.List.Sorted.{IsBinarySearchResult, IsSearchInRange, IsSortedByKey}
-use Rattle.std.specs.Ordering.{is_eq}
-use Rattle.std.specs.declared.cmp.Ordering.{Ordering}
-use Rattle.std.proofs.Common.{◌∙◌, ap, arith, get_or, sym}
-use Rattle.std.proofs.lemmas.Option.{slice_get-get_or}
+use Rattle.std.proofs.{Common.{◌∙◌, ap, arith, get_or, sym}, lemmas.Option.slice_get-get_or}
 use Rattle.vecmap_base.specs.Pairs.{HasDistinctKeys, index_of, lookup, value_at}
-use Rattle.vecmap_base.proofs.IndexLemmas.{is_some_position}
-use Rattle.vecmap_base.proofs.ItemsLemmas.Sorted.{search_finds_equal}
+use Rattle.vecmap_base.proofs.{IndexLemmas.is_some_position, ItemsLemmas.Sorted.search_finds_equal}
 use Rattle.vecmap_base.proofs.PairsLemmas.{AtIndices.index_by_own, ByIndex.index_by_is, ByIndex.is_some_lookup_by, ByIndex.lookup_by_index}
 
 module _ {K V : Type 0} (eq : K → K → Bool) (cmp : K → K → Ordering) (o : IsTotalOrder cmp) (matches : (x y : K) → eq x y ≡ is_eq (cmp x y)) where

@@ -3,8 +3,7 @@ use Rattle.std.specs.{Map.keys_of, Map.values_of, Option.option_map}
 use Rattle.std.proofs.Common.{◌≡◌, ◌∙◌, ◌<◌, ℕ, zero, suc, All, Bool, List, [], ◌∷◌, None, Option, Some, IsSome, ap, arith, length, refl, subst, sym, true≢false}
 use Rattle.std.proofs.lemmas.List.Elements.{All-cons, All-nil}
 use Rattle.vecmap_base.specs.{Indices.KeepsIndices, Pairs.lookup_by, Pairs.map_values, Pairs.value_at}
-use Rattle.vecmap_base.proofs.PairsLemmas.AtIndices.{keeps_indices}
-use Rattle.vecmap_base.proofs.PairsLemmas.Indices.{lookup_by_map_values}
+use Rattle.vecmap_base.proofs.{PairsLemmas.AtIndices.keeps_indices, PairsLemmas.Indices.lookup_by_map_values}
 
 set_if_found : {V W : Type 0} (w : W) (found : Option V) → IsSome found → option_map (λ _. w) found ≡ Some w
 set_if_found w None some = absurd (true≢false (sym some))

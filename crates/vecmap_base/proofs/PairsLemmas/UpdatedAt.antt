@@ -3,8 +3,7 @@ use Rattle.std.specs.{List.IsDistinct, Map.set_value, Option.option_map_or}
 use Rattle.std.proofs.Common.{◌≡◌, ◌∙◌, ℕ, Bool, List, [], ◌∷◌, Some, IsSome, ap, cond, inl, inr, is_some, subst, sym, true≢false}
 use Rattle.std.proofs.lemmas.Bool.{cases_Bool}
 use Rattle.vecmap_base.specs.{Indices.KeepsIndices, Lookups.UpdatesAt, Pairs.index_by, Pairs.lookup_by, Pairs.with_value}
-use Rattle.vecmap_base.proofs.PairsLemmas.AtIndices.{keeps_indices}
-use Rattle.vecmap_base.proofs.PairsLemmas.ByIndex.{is_some_lookup_by, set_value_by_index}
+use Rattle.vecmap_base.proofs.{PairsLemmas.AtIndices.keeps_indices, PairsLemmas.ByIndex.{is_some_lookup_by, set_value_by_index}}
 use Rattle.vecmap_base.proofs.PairsLemmas.Updates.{updates_matched, updates_written_at}
 use Rattle.vecmap_base.proofs.PairsLemmas.Values.{keys_of_with_value, values_of_with_value}
 

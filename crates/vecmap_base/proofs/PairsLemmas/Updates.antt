@@ -1,24 +1,17 @@
 -- What lookups find after a removal and after a write of a value, in the words of contracts.
 use Rattle.std.specs.{Cmp.IsEquivalence, List.AllByRecursion, List.IsDistinct, List.Sorted.IsPermutation, Map.AreApart, Map.IsKeyTest, Map.KeepsOthers, Map.keys_of, Map.set_value, Option.option_and_then, Option.option_map_or}
 use Rattle.std.proofs.Common.{arith, ◌≡◌, ◌∙◌, ◌-◌, ◌++◌, ℕ, Bool, true, false, List, [], ◌∷◌, None, Option, Some, IsSome, ap, cond, inl, inr, insert, is_some, length, min, refl, remove, slice_get, subst, sym, true≢false}
-use Rattle.std.proofs.lemmas.Bool.{cases_Bool}
-use Rattle.std.proofs.lemmas.List.{map-set}
-use Rattle.std.proofs.lemmas.List.Quantifiers.{position-Some}
-use Rattle.std.proofs.lemmas.List.Sorted.{IsPermutation-insert}
+use Rattle.std.proofs.{lemmas.Bool.cases_Bool, lemmas.List.map-set, lemmas.List.Quantifiers.position-Some}
+use Rattle.std.proofs.{lemmas.List.Sorted.IsPermutation-insert, lemmas.Map.Entries.none_past_head, lemmas.Option.get_or_from_slice_get}
 use Rattle.std.proofs.lemmas.Map.{NonePasses, lookup-none, lookup-set_value, none_passes_from_lookup}
-use Rattle.std.proofs.lemmas.Map.Entries.{none_past_head}
 use Rattle.std.proofs.lemmas.Map.Keys.{IsDistinct-cons, IsDistinct-tail}
-use Rattle.std.proofs.lemmas.Option.{get_or_from_slice_get}
 use Rattle.vecmap_base.specs.{Lookups.KeepsLookups, Lookups.UpdatesBy}
 use Rattle.vecmap_base.specs.Pairs.{HasDistinctKeys, index_by, index_of, lookup, lookup_by, put, put_at, put_key, value_at, with_pair, with_value, without_by}
 use Rattle.vecmap_base.proofs.PairsLemmas.ByIndex.{index_by_is, index_by_none, is_some_lookup_by, lookup_by_index, put_key_by_index, set_value_by_index, without_by_index}
 use Rattle.vecmap_base.proofs.PairsLemmas.Distinct.{distinct_keys_rearranged, distinct_keys_set_value, distinct_put}
-use Rattle.vecmap_base.proofs.PairsLemmas.Keys.{index_of_is}
-use Rattle.vecmap_base.proofs.PairsLemmas.Lookups.{compares_with, same_answer, updates_of_put, updates_put}
-use Rattle.vecmap_base.proofs.DistinctLemmas.Additions.{distinct_replace}
-use Rattle.vecmap_base.proofs.PairsLemmas.Puts.{put_absent}
-use Rattle.vecmap_base.proofs.PairsLemmas.Order.{lookup_by_rearranged, pair_of_value}
-use Rattle.vecmap_base.proofs.TakenLemmas.{TakesFirst, first_by_shift}
+use Rattle.vecmap_base.proofs.{PairsLemmas.Keys.index_of_is, PairsLemmas.Lookups.{compares_with, same_answer, updates_of_put, updates_put}}
+use Rattle.vecmap_base.proofs.{DistinctLemmas.Additions.distinct_replace, PairsLemmas.Puts.put_absent}
+use Rattle.vecmap_base.proofs.{PairsLemmas.Order.{lookup_by_rearranged, pair_of_value}, TakenLemmas.{TakesFirst, first_by_shift}}
 
 module _ {K V : Type 0} (eq : K → K → Bool) (o : IsEquivalence eq) (test : K → Bool) (respects : IsKeyTest eq test) where
   -- The record from three of its facts: what the query finds, that other queries find the same, and distinct keys.

@@ -6,8 +6,7 @@
 //!
 //! The iterator also has the name of its borrow (`name_of`), by which a contract says what the collection holds once
 //! the borrow ends.
-ghost use Rattle.std.specs.Prelude.{◌≡◌, length, map};
-ghost use Rattle.std.specs.Iterator.{at_most};
+ghost use Rattle.std.specs.{Prelude.{◌≡◌, length, map}, Iterator.at_most};
 ghost use Rattle.vecmap_base.specs.Iterators.{HintsExactly, ShowsAllOf, TakesFirstOf, TakesLastOf, name_of, rest_of};
 
 use crate::projection::{PartMut, Projection};

@@ -2,9 +2,7 @@
 //!
 //! In contracts it is the list of the parts that it has left. `next` removes the first of them and returns it, and
 //! `next_back` the last, in constant time. Once the list is empty, both return `None`. No call allocates.
-ghost use Rattle.std.specs.Prelude.{◌≡◌, ⊤, length, map};
-ghost use Rattle.std.specs.Iterator.{at_most};
-ghost use Rattle.std.specs.Map.Iter.{TakesFirst, TakesLast};
+ghost use Rattle.std.specs.{Prelude.{◌≡◌, ⊤, length, map}, Iterator.at_most, Map.Iter.{TakesFirst, TakesLast}};
 ghost use Rattle.vecmap_base.specs.Iterators.{HintsExactly, ShowsAll};
 
 use crate::projection::{PartRef, Projection};
@@ -25,8 +23,7 @@ pub struct IterOf<'a, X, T, P: Projection<X, T>> {
 }
 
 impl<'a, X, T, P: Projection<X, T>> Model for IterOf<'a, X, T, P> {
-    ghost use Rattle.std.specs.Prelude.{List, map};
-    ghost use Rattle.std.specs.Slice.Iter.{iter_rest};
+    ghost use Rattle.std.specs.{Prelude.{List, map}, Slice.Iter.iter_rest};
 
     ghost Value = { List T };
 

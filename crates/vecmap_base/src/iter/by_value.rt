@@ -3,11 +3,8 @@
 //! In contracts it is the list of the parts that it has left. `next` removes the first of them and returns it, and
 //! `next_back` the last, in constant time. Once the list is empty, both return `None`. Only `clone` allocates, and its
 //! time is linear in the length of the list.
-ghost use Rattle.std.specs.Prelude.{◌≡◌, IfOk, length, map};
-ghost use Rattle.std.specs.Iterator.{at_most};
-ghost use Rattle.std.specs.Map.Iter.{TakesFirst, TakesLast};
-ghost use Rattle.vecmap_base.specs.Clones.{AreClones};
-ghost use Rattle.vecmap_base.specs.Iterators.{GivesAll, HintsExactly};
+ghost use Rattle.std.specs.{Prelude.{◌≡◌, IfOk, length, map}, Iterator.at_most, Map.Iter.{TakesFirst, TakesLast}};
+ghost use Rattle.vecmap_base.specs.{Clones.AreClones, Iterators.{GivesAll, HintsExactly}};
 
 use crate::projection::{ClonePart, IntoPart, Projection};
 use std::alloc::AllocError;

@@ -1,7 +1,5 @@
 //! The iterators over a map's keys: by reference, by mutable reference and by value.
-ghost use Rattle.std.specs.Prelude.{◌≡◌};
-ghost use Rattle.std.specs.Map.{keys_of};
-ghost use Rattle.std.specs.Map.Iter.{deref};
+ghost use Rattle.std.specs.{Prelude.{◌≡◌}, Map.keys_of, Map.Iter.deref};
 ghost use Rattle.vecmap_base.specs.Iterators.{GivesAll, ShowsAll, ShowsAllOf, deref_mut, keys_mut_name, keys_mut_rest};
 
 use crate::iter::{IntoIterOf, IterMutOf, IterOf};

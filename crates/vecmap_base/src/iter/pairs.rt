@@ -1,6 +1,5 @@
 //! The iterators over a map's pairs: by reference, by mutable reference and by value.
-ghost use Rattle.std.specs.Prelude.{◌≡◌};
-ghost use Rattle.std.specs.Map.Iter.{ShowsValuesInOrder, ShowsValuesInReverse, deref_pair, deref_pair_mut};
+ghost use Rattle.std.specs.{Prelude.{◌≡◌}, Map.Iter.{ShowsValuesInOrder, ShowsValuesInReverse, deref_pair, deref_pair_mut}};
 ghost use Rattle.vecmap_base.specs.Iterators.{GivesAll, ShowsAll, ShowsAllOf, deref_both_mut, iter_mut2_name, iter_mut2_rest, iter_mut_name, iter_mut_rest};
 
 use crate::iter::{IntoIterOf, IterMutOf, IterOf};

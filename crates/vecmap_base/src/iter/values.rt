@@ -1,7 +1,5 @@
 //! The iterators over a map's values: by reference, by mutable reference and by value.
-ghost use Rattle.std.specs.Prelude.{◌≡◌};
-ghost use Rattle.std.specs.Map.{values_of};
-ghost use Rattle.std.specs.Map.Iter.{deref};
+ghost use Rattle.std.specs.{Prelude.{◌≡◌}, Map.values_of, Map.Iter.deref};
 ghost use Rattle.vecmap_base.specs.Iterators.{GivesAll, ShowsAll, ShowsAllOf, deref_mut, values_mut_name, values_mut_rest};
 
 use crate::iter::{IntoIterOf, IterMutOf, IterOf};

@@ -1,6 +1,5 @@
 //! Laws of distinct keys.
-ghost use Rattle.std.specs.List.{remove_range};
-ghost use Rattle.std.specs.Prelude.{Bool, List, [], drop, filter, remove, slice_range, take, ℕ, ◌≤◌};
+ghost use Rattle.std.specs.{List.remove_range, Prelude.{Bool, List, [], drop, filter, remove, slice_range, take, ℕ, ◌≤◌}};
 ghost use Rattle.vecmap_base.specs.Items.{swap_without};
 ghost use Rattle.vecmap_base.specs.Pairs.{HasDistinctKeys, put, put_at, put_key, puts, swap_without_by, swap_without_key, with_value, without_by};
 

@@ -1,9 +1,6 @@
 //! Laws of `==` of maps.
-ghost use Rattle.std.specs.List.Sorted.{IsPermutation};
-ghost use Rattle.std.specs.Option.{option_eq};
-ghost use Rattle.std.specs.Prelude.{IsTrue, List, false, length, ◌↔◌, ◌≡◌, ◌≢◌};
-ghost use Rattle.vecmap_base.specs.Equality.{counts_agree, has_same_counts};
-ghost use Rattle.vecmap_base.specs.Pairs.{HasDistinctKeys, lookup};
+ghost use Rattle.std.specs.{List.Sorted.IsPermutation, Option.option_eq, Prelude.{IsTrue, List, false, length, ◌↔◌, ◌≡◌, ◌≢◌}};
+ghost use Rattle.vecmap_base.specs.{Equality.{counts_agree, has_same_counts}, Pairs.{HasDistinctKeys, lookup}};
 ghost use Rattle.vecmap_laws.specs.Agreement.{agrees};
 
 /// Equality of maps is reflexive, symmetric and transitive, even with duplicate keys.

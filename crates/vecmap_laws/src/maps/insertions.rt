@@ -1,14 +1,10 @@
 //! Laws of what insertions leave: what lookups find, at which indices, and the length.
-ghost use Rattle.std.specs.Iterator.Runs.{CollectsByExtend};
-ghost use Rattle.std.specs.Map.{keys_of};
-ghost use Rattle.std.specs.Option.{option_map_or, option_or};
+ghost use Rattle.std.specs.{Iterator.Runs.CollectsByExtend, Map.keys_of, Option.{option_map_or, option_or}};
 ghost use Rattle.std.specs.Prelude.{IsSome, List, None, Some, [], false, if◌then◌else◌, insert, is_some, length, min, reverse, slice_get, unwrap_or, ℕ, ◌++◌, ◌+◌, ◌∷◌, ◌≡◌, ◌≤◌};
 ghost use Rattle.vecmap_base.specs.Items.{add, adds, item_index};
 ghost use Rattle.vecmap_base.specs.Pairs.{HasDistinctKeys, index_of, index_or_length, lookup, put, put_at, put_key, puts, without_key};
 ghost use Rattle.vecmap_laws.specs.FirstValue.{put_new, puts_new};
-ghost use Rattle.vecmap_map.specs.Contents.{Contents};
-ghost use Rattle.vecmap_map.specs.Entry.{AreEntriesWith, entry_index_of, entry_key, entry_map};
-ghost use Rattle.vecmap_map.specs.MapBulk.{Puts};
+ghost use Rattle.vecmap_map.specs.{Contents.Contents, Entry.{AreEntriesWith, entry_index_of, entry_key, entry_map}, MapBulk.Puts};
 ghost use Rattle.vecmap_map.specs.declared.entry.Entry.{Entry};
 
 /// After an insertion, its key finds the new value, and every other key finds what it found before.

@@ -1,6 +1,5 @@
 //! Laws of what keys and queries find.
-ghost use Rattle.std.specs.Map.{IsKeyTest};
-ghost use Rattle.std.specs.Prelude.{Bool, List, None, Some, false, if◌then◌else◌, is_some, slice_get, true, ℕ, ◌≡◌};
+ghost use Rattle.std.specs.{Map.IsKeyTest, Prelude.{Bool, List, None, Some, false, if◌then◌else◌, is_some, slice_get, true, ℕ, ◌≡◌}};
 ghost use Rattle.vecmap_base.specs.Pairs.{HasDistinctKeys, index_of, lookup, lookup_by, put, without_by};
 
 /// Equal keys have the same value and the same index. A lookup finds a value exactly if its key has an index, and finds

@@ -1,11 +1,8 @@
 //! Laws of maps whose values are maps.
-ghost use Rattle.std.specs.Map.{IsKeyTest};
-ghost use Rattle.std.specs.Option.{UnwrapsOrElse};
-ghost use Rattle.std.specs.Prelude.{Bool, List, Some, false, if◌then◌else◌, ◌&&◌, ◌≡◌};
+ghost use Rattle.std.specs.{Map.IsKeyTest, Option.UnwrapsOrElse, Prelude.{Bool, List, Some, false, if◌then◌else◌, ◌&&◌, ◌≡◌}};
 ghost use Rattle.vecmap_base.specs.Pairs.{index_of, lookup, lookup_by, put};
 ghost use Rattle.vecmap_laws.specs.Nested.{IsMadeEmpty, inner_entries, inner_entries_by};
-ghost use Rattle.vecmap_map.specs.Contents.{Contents};
-ghost use Rattle.vecmap_map.specs.Entry.{entries_with, entry_index_of, entry_key, entry_map, entry_value};
+ghost use Rattle.vecmap_map.specs.{Contents.Contents, Entry.{entries_with, entry_index_of, entry_key, entry_map, entry_value}};
 ghost use Rattle.vecmap_map.specs.declared.entry.Entry.{Entry};
 
 /// In a map of maps, an insertion into the map of a key inserts into the inner pairs of that key.

@@ -1,6 +1,5 @@
 //! Laws of writes of a value that is found, as through `get_mut`.
-ghost use Rattle.std.specs.Map.{IsKeyTest, keys_of};
-ghost use Rattle.std.specs.Prelude.{Bool, IsSome, List, None, Some, false, true, ◌≡◌};
+ghost use Rattle.std.specs.{Map.{IsKeyTest, keys_of}, Prelude.{Bool, IsSome, List, None, Some, false, true, ◌≡◌}};
 ghost use Rattle.vecmap_base.specs.Pairs.{index_by, index_of, lookup, lookup_by, put, without_key};
 ghost use Rattle.vecmap_map.specs.Contents.{Contents, with_value_by, with_value_of};
 

@@ -1,6 +1,5 @@
 //! The law of distinct elements.
-ghost use Rattle.std.specs.List.{IsDistinct, remove_range};
-ghost use Rattle.std.specs.Prelude.{Bool, List, drop, filter, slice_range, take, ℕ, ◌≤◌};
+ghost use Rattle.std.specs.{List.{IsDistinct, remove_range}, Prelude.{Bool, List, drop, filter, slice_range, take, ℕ, ◌≤◌}};
 
 /// Distinct elements stay distinct in a part of the list, without a part of it, and among those that pass a test.
 pub fn parts_keep_elements_distinct<T: Eq>()

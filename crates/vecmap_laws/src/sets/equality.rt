@@ -1,9 +1,6 @@
 //! Laws of `==` of sets, and of subsets.
-ghost use Rattle.std.specs.List.{IsDistinct};
-ghost use Rattle.std.specs.List.Sorted.{IsPermutation};
-ghost use Rattle.std.specs.Prelude.{IsTrue, List, [], false, length, ◌<◌, ◌↔◌, ◌≡◌, ◌≢◌};
-ghost use Rattle.vecmap_base.specs.Equality.{has_same_items, is_within};
-ghost use Rattle.vecmap_base.specs.Items.{both};
+ghost use Rattle.std.specs.{List.IsDistinct, List.Sorted.IsPermutation, Prelude.{IsTrue, List, [], false, length, ◌<◌, ◌↔◌, ◌≡◌, ◌≢◌}};
+ghost use Rattle.vecmap_base.specs.{Equality.{has_same_items, is_within}, Items.both};
 
 /// Equality of sets is reflexive, symmetric and transitive.
 pub fn equality_is_an_equivalence<T: Eq>()

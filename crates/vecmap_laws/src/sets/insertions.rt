@@ -1,12 +1,8 @@
 //! Laws of what additions leave: which elements, at which indices.
-ghost use Rattle.std.specs.Iterator.Runs.{CollectsByExtend};
-ghost use Rattle.std.specs.List.{IsDistinct};
-ghost use Rattle.std.specs.Option.{option_or};
+ghost use Rattle.std.specs.{Iterator.Runs.CollectsByExtend, List.IsDistinct, Option.option_or, Set.is_member};
 ghost use Rattle.std.specs.Prelude.{List, Some, [], false, if◌then◌else◌, length, option_map, slice_get, true, unwrap_or, ℕ, ◌++◌, ◌+◌, ◌<◌, ◌∷◌, ◌≡◌, ◌≤◌};
-ghost use Rattle.std.specs.Set.{is_member};
 ghost use Rattle.vecmap_base.specs.Items.{add, adds, item_index, only};
-ghost use Rattle.vecmap_set.specs.Contents.{Contents};
-ghost use Rattle.vecmap_set.specs.SetBulk.{Adds};
+ghost use Rattle.vecmap_set.specs.{Contents.Contents, SetBulk.Adds};
 
 /// An addition moves no element.
 ///

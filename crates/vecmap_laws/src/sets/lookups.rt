@@ -1,10 +1,7 @@
 //! Laws of what elements and queries find.
-ghost use Rattle.std.specs.List.{IsDistinct, list_any};
-ghost use Rattle.std.specs.Map.{IsKeyTest};
+ghost use Rattle.std.specs.{List.{IsDistinct, list_any}, Map.IsKeyTest, Set.is_member};
 ghost use Rattle.std.specs.Prelude.{Bool, Contains, IsTrue, List, Some, false, if◌then◌else◌, length, position, true, unwrap_or, ◌≡◌};
-ghost use Rattle.std.specs.Set.{is_member};
-ghost use Rattle.vecmap_base.specs.Clones.{AreClones};
-ghost use Rattle.vecmap_base.specs.Items.{add, without_first};
+ghost use Rattle.vecmap_base.specs.{Clones.AreClones, Items.{add, without_first}};
 
 /// If each clone of an element is equal to it, the same elements are present in clones of a list.
 ///

@@ -1,9 +1,6 @@
 //! Laws of what removals leave: which elements, and the length.
-ghost use Rattle.std.specs.List.{IsDistinct};
-ghost use Rattle.std.specs.Prelude.{Bool, List, drop, filter, take, ℕ, ◌-◌, ◌≡◌};
-ghost use Rattle.vecmap_base.specs.Asked.{CallsAtItem};
-ghost use Rattle.vecmap_base.specs.Items.{adds};
-ghost use Rattle.vecmap_base.specs.Kept.{Kept, TestsItems};
+ghost use Rattle.std.specs.{List.IsDistinct, Prelude.{Bool, List, drop, filter, take, ℕ, ◌-◌, ◌≡◌}};
+ghost use Rattle.vecmap_base.specs.{Asked.CallsAtItem, Items.adds, Kept.{Kept, TestsItems}};
 
 /// `retain` leaves the elements that pass a test, if the closure returns the result of the test.
 ///

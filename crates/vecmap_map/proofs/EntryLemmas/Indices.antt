@@ -2,8 +2,7 @@
 use Rattle.std.proofs.Common.{◌≡◌, ℕ, zero, suc, ◌-◌, ◌<◌, List, [], ◌∷◌, ◌++◌, Some, ap, arith, length, refl, remove, set, slice_get, sym, take_at, ◌∙◌}
 use Rattle.std.proofs.Math.Nat.{eq-or-lt_of_le}
 use Rattle.std.proofs.lemmas.List.{get_or-set_other, get_or_default, length-append, length-set, set-set, take-set-le}
-use Rattle.std.specs.List.{swap_remove}
-use Rattle.std.specs.Option.{option_map_or}
+use Rattle.std.specs.{List.swap_remove, Option.option_map_or}
 use Rattle.vecmap_base.specs.Items.{swap_without}
 pub use Rattle.vecmap_base.proofs.IndexLemmas.{remove_last, slice_get_last}
 

@@ -1,13 +1,8 @@
 -- The entry after a write of its value, and the entry that `insert_entry` returns. Each field is a lemma on lists.
-use Rattle.std.proofs.Common.{arith, ◌≡◌, ◌<◌, [], ◌∷◌, ◌++◌, None, ap, length}
-use Rattle.std.proofs.Math.Bridge.{le_prop}
-use Rattle.std.proofs.Math.Nat.{le_refl}
+use Rattle.std.proofs.{Common.{arith, ◌≡◌, ◌<◌, [], ◌∷◌, ◌++◌, None, ap, length}, Math.Bridge.le_prop, Math.Nat.le_refl}
 use Rattle.vecmap_base.specs.Pairs.{with_value}
-use Rattle.vecmap_map.specs.Contents.{KeepsRoomAt, with_value_at}
-use Rattle.vecmap_map.specs.Entry.{IsInserted, LeavesSame, occupied_with}
-use Rattle.vecmap_map.specs.EntryWithin.{still_within}
-use Rattle.vecmap_map.specs.declared.entry.Entry.TheVariants.{Occupied, Vacant}
-use Rattle.vecmap_map.specs.declared.entry.occupied.OccupiedEntry.{OccupiedEntry}
+use Rattle.vecmap_map.specs.{Contents.{KeepsRoomAt, with_value_at}, Entry.{IsInserted, LeavesSame, occupied_with}, EntryWithin.still_within}
+use Rattle.vecmap_map.specs.{declared.entry.Entry.TheVariants.{Occupied, Vacant}, declared.entry.occupied.OccupiedEntry.OccupiedEntry}
 use Rattle.vecmap_map.specs.declared.entry.vacant.VacantEntry.{VacantEntry}
 use Rattle.vecmap_map.proofs.EntryLemmas.Indices.{remove_last, swap_without_last}
 use Rattle.vecmap_map.proofs.EntryLemmas.Written.{remove_written, swap_without_written, value_last, value_at_written, with_value_last, with_value_twice}

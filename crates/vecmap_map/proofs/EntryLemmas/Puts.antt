@@ -1,8 +1,7 @@
 -- A write through the entry of a key is an insertion of the key, and a removal through it is a removal of the key.
 use Rattle.std.proofs.Common.{◌≡◌, ◌∙◌, ◌++◌, ◌∷◌, [], Bool, remove, sym}
 use Rattle.std.specs.Option.{option_and_then, option_map_or}
-use Rattle.vecmap_base.specs.Pairs.{index_of, lookup, put, swap_without_by, value_at, with_value, without_by}
-use Rattle.vecmap_base.specs.Items.{swap_without}
+use Rattle.vecmap_base.specs.{Pairs.{index_of, lookup, put, swap_without_by, value_at, with_value, without_by}, Items.swap_without}
 use Rattle.vecmap_base.proofs.PairsLemmas.ByIndex.{lookup_by_index, put_by_index, without_by_index}
 use Rattle.vecmap_map.specs.{Contents.Contents, Entry.entries_swap_without, Entry.entries_with, Entry.entries_without, Entry.entry_index_of, Entry.entry_key, Entry.entry_map, Entry.entry_value}
 use Rattle.vecmap_map.specs.declared.entry.Entry.{Entry}

@@ -1,10 +1,8 @@
 -- What later writes and removals find after a pair was appended or a value was written. A written pair keeps its key,
 -- so each lemma is one of `Indices` on the whole pair.
-use Rattle.std.proofs.Common.{arith, ◌≡◌, ℕ, ◌<◌, List, [], ◌∷◌, ◌++◌, Some, ap, length, remove, set, slice_get, ◌∙◌}
-use Rattle.std.proofs.lemmas.List.{set-set}
+use Rattle.std.proofs.{Common.{arith, ◌≡◌, ℕ, ◌<◌, List, [], ◌∷◌, ◌++◌, Some, ap, length, remove, set, slice_get, ◌∙◌}, lemmas.List.set-set}
 use Rattle.std.specs.Option.{option_map, option_map_or}
-use Rattle.vecmap_base.specs.Items.{swap_without}
-use Rattle.vecmap_base.specs.Pairs.{value_at, with_value}
+use Rattle.vecmap_base.specs.{Items.swap_without, Pairs.{value_at, with_value}}
 use Rattle.vecmap_map.proofs.EntryLemmas.Indices.{item_there, remove_set, set_last, slice_get_set, slice_get_last, swap_without_set}
 
 -- A pair that was appended.

@@ -30,9 +30,8 @@ use denote.Plain.{uint_Makes, uint_vals}
 use denote.Laws.{Is}
 use Rattle.vecmap_base.specs.Pairs.{index_by}
 use Rattle.std.specs.Option.{option_map_or}
-use Rattle.vecmap_map.specs.Contents.{Contents, with_pair_at, with_pair_by}
+use Rattle.vecmap_map.specs.{Contents.{Contents, with_pair_at, with_pair_by}, contracts.VecMap.the_row}
 use Rattle.vecmap_map.specs.Lends.{lends_parts, lends_pair_at, lends_pair_if_at, lends_both_at, lends_both_beside_index}
-use Rattle.vecmap_map.specs.contracts.VecMap.{the_row}
 
 module _ (KT VT : RattleType) where
   abbrev pub K : RattleType

@@ -24,14 +24,12 @@ use denote.Builtin.{usize}
 use denote.Plain.{uint_Makes, uint_vals}
 use denote.Follow.{follows, follows_by, follows_then}
 use denote.Struct.Tuple.{Tuple}
-use Rattle.std.specs.Borrow.{Bor}
+use Rattle.std.specs.{Borrow.Bor, Option.option_map_or}
 use Rattle.std.specs.contracts.option.Option as OP
-use Rattle.std.specs.Option.{option_map_or}
 use Rattle.vecmap_base.specs.Pairs.{index_by, with_value}
 use Rattle.vecmap_base.proofs.PairsLemmas.ByIndex.{set_value_by_index}
-use Rattle.vecmap_map.specs.Contents.{Contents, with_entries, with_value_at, with_value_by}
+use Rattle.vecmap_map.specs.{Contents.{Contents, with_entries, with_value_at, with_value_by}, contracts.VecMap.the_row}
 use Rattle.vecmap_map.specs.Lends.{lends_beside_key, lends_beside_index, lends_value, lends_value_at, lends_pair_if_at}
-use Rattle.vecmap_map.specs.contracts.VecMap.{the_row}
 
 module _ {M : Type 1} (𝓤 : Ura M) (𝓛 : Logic 𝓤) where
   open 𝓛 use {H}

@@ -1,5 +1,5 @@
 -- How a `VecMap` stores its values. By this file a type may hold a map of values of that same type.
-use Rattle.std.specs.Prelude.{◌≡◌, ◌+◌, ℕ, Bool, ◌&&◌, cond, max, List, [], ◌∷◌, map, nat_eq}
+use Rattle.std.specs.{Prelude.{◌≡◌, ◌+◌, ℕ, Bool, ◌&&◌, cond, max, List, [], ◌∷◌, map, nat_eq}, declared.alloc.Global.Global, Map.values_of}
 use mathlib.Core.Path.{refl, sym, ap, ◌∙◌}
 use mathlib.Core.Former.{Former, Count, Row, this, const, pair, list, via, children, list_count, list_put}
 use native.Mathlib.Omega.{arith}
@@ -15,15 +15,11 @@ use denote.Param.Weighed.{Weighed, most, List-puts, w_pair, w_const}
 use denote.Model.Placed.{view_places}
 use Rattle.std.specs.formers.vec.Vec as vec
 use Rattle.std.specs.declared.cmp.PartialEq as eq
-use Rattle.std.specs.declared.alloc.Global.{Global}
 use Rattle.std.specs.contracts.alloc.Global as heap
 use Rattle.std.specs.contracts.impls.GlobalAllocator.TheImpl.{ghosts}
-use Rattle.std.specs.Map.{values_of}
 use Rattle.std.proofs.lemmas.List.Sums.{sum_by-cons}
 use Rattle.vecmap_base.specs.Equality.{count, counts_agree, has_same_counts, same_pair}
-use Rattle.vecmap_map.specs.Contents.{Contents}
-use Rattle.vecmap_map.specs.declared.VecMap.TheInside.{Inside}
-use Rattle.vecmap_map.specs.declared.VecMap.TheView.{view, invariant}
+use Rattle.vecmap_map.specs.{Contents.Contents, declared.VecMap.TheInside.Inside, declared.VecMap.TheView.{view, invariant}}
 use Rattle.vecmap_map.specs.contracts.VecMap as C
 use Rattle.vecmap_map.specs.contracts.VecMap.TheInside as I
 

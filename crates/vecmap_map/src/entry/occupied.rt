@@ -1,6 +1,5 @@
 //! The entry of a key that is present.
-ghost use Rattle.std.specs.Prelude.{◌≡◌, ◌<◌, IfOk, IsOk, Some, length};
-ghost use Rattle.std.specs.Borrow.{sem};
+ghost use Rattle.std.specs.{Prelude.{◌≡◌, ◌<◌, IfOk, IsOk, Some, length}, Borrow.sem};
 
 use crate::VecMap;
 use std::mem::replace;

@@ -1,6 +1,5 @@
 //! The entry of a key that is not present.
-ghost use Rattle.std.specs.Prelude.{◌≡◌, IfErr, IfOk, OnErr};
-ghost use Rattle.std.specs.Borrow.{sem};
+ghost use Rattle.std.specs.{Prelude.{◌≡◌, IfErr, IfOk, OnErr}, Borrow.sem};
 ghost use Rattle.vecmap_map.specs.Contents.{IsFull};
 
 use super::OccupiedEntry;
@@ -15,8 +14,7 @@ pub struct VacantEntry<'a, K, V> {
 }
 
 impl<'a, K, V> VacantEntry<'a, K, V> {
-    ghost use Rattle.vecmap_map.specs.declared.entry.Entry.TheVariants.{Vacant};
-    ghost use Rattle.vecmap_map.specs.Entry.{IsInserted, entry_index, entry_key, entry_map};
+    ghost use Rattle.vecmap_map.specs.{declared.entry.Entry.TheVariants.Vacant, Entry.{IsInserted, entry_index, entry_key, entry_map}};
     ghost use Rattle.vecmap_map.specs.EntryLends.{entry_lends, entry_passes};
 
     /// Returns the key that was passed to [`VecMap::entry`].

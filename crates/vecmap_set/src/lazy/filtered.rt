@@ -1,6 +1,5 @@
 //! The iterator over the elements of one list that another list has, or that it lacks.
-ghost use Rattle.std.specs.Prelude.{◌≡◌, ⊤, Bool, false, length, true};
-ghost use Rattle.std.specs.Iterator.{at_most};
+ghost use Rattle.std.specs.{Prelude.{◌≡◌, ⊤, Bool, false, length, true}, Iterator.at_most};
 ghost use Rattle.vecmap_base.specs.Iterators.{IsHintFor};
 ghost use Rattle.vecmap_set.specs.Lazy.{FiltersAll, FiltersFirst, FiltersLast, filtered_of, filtered_rest, presence};
 

@@ -1,6 +1,5 @@
 //! An iterator over the elements that only one of two sets has.
-ghost use Rattle.std.specs.Prelude.{◌≡◌, ⊤, ◌+◌, length};
-ghost use Rattle.std.specs.Iterator.{at_most};
+ghost use Rattle.std.specs.{Prelude.{◌≡◌, ⊤, ◌+◌, length}, Iterator.at_most};
 ghost use Rattle.vecmap_base.specs.Iterators.{IsHintFor};
 ghost use Rattle.vecmap_set.specs.Lazy.{ExcludesFirst, ExcludesLast, IsBound, symmetric_parts, symmetric_rest};
 

@@ -1,6 +1,5 @@
 //! An iterator over the elements of one set, and then the elements of another that it lacks.
-ghost use Rattle.std.specs.Prelude.{◌≡◌, ⊤, ◌+◌, length};
-ghost use Rattle.std.specs.Iterator.{at_most};
+ghost use Rattle.std.specs.{Prelude.{◌≡◌, ⊤, ◌+◌, length}, Iterator.at_most};
 ghost use Rattle.vecmap_base.specs.Iterators.{IsHintFor};
 ghost use Rattle.vecmap_set.specs.Lazy.{IsBound, JoinsFirst, JoinsLast, union_parts, union_rest};
 
@@ -35,8 +34,7 @@ pub struct Union<'a, T: Eq> {
 }
 
 impl<'a, T: Eq> Model for Union<'a, T> {
-    ghost use Rattle.std.specs.Prelude.{List};
-    ghost use Rattle.std.specs.Slice.Iter.{iter_rest};
+    ghost use Rattle.std.specs.{Prelude.List, Slice.Iter.iter_rest};
     ghost use Rattle.vecmap_set.specs.Lazy.{Filtered, Parts};
 
     ghost Value = { Parts (List T) (Filtered T) };

@@ -1,16 +1,10 @@
 -- The loop keeps that the sections so far are merged, and that there is spare capacity for the sections still to come.
 use Rattle.std.proofs.Common.{List, ℕ, ◌∙◌, ◌++◌, ap, append_assoc, arith, length, refl, subst, sym}
-use Rattle.std.specs.List.{All}
-use Rattle.std.specs.Map.{keys_of}
-use Rattle.std.specs.Vec.Iter.{into_iter_items}
-use Rattle.std.specs.Str.{str_eq_ignore_ascii_case}
-use Rattle.std.proofs.lemmas.List.Elements.{All-head, All-tail}
-use Rattle.std.proofs.lemmas.Map.Keys.{IsDistinct-head, IsDistinct-tail}
-use Rattle.vecmap.specs.Contents.{HasRoom}
-use Rattle.vecmap.specs.Pairs.{HasDistinctKeys}
+use Rattle.std.specs.{List.All, Map.keys_of, Vec.Iter.into_iter_items, Str.str_eq_ignore_ascii_case}
+use Rattle.std.proofs.{lemmas.List.Elements.{All-head, All-tail}, lemmas.Map.Keys.{IsDistinct-head, IsDistinct-tail}}
+use Rattle.vecmap.specs.{Contents.HasRoom, Pairs.HasDistinctKeys}
 use Rattle.attr_doc.specs.Documents.{IsRoomFor, Stored, sections_of, with_section}
-use Rattle.attr_doc.proofs.ChangeLemmas.{merged_push}
-use Rattle.attr_doc.proofs.RoomLemmas.{room_after}
+use Rattle.attr_doc.proofs.{ChangeLemmas.merged_push, RoomLemmas.room_after}
 use Rattle.attr_doc.proofs.merge.move_all.Goals as goal
 
 pub loop-name-init : goal.loop-name-init

@@ -1,9 +1,7 @@
-use Rattle.std.proofs.Common.{arith, ap, length, refl, sym}
-use Rattle.std.proofs.lemmas.Map.{length-set_value}
+use Rattle.std.proofs.{Common.{arith, ap, length, refl, sym}, lemmas.Map.length-set_value}
 use Rattle.std.specs.Str.{str_eq_ignore_ascii_case}
 use Rattle.vecmap_laws.proofs.AfterPuts.{length_put}
-use Rattle.attr_doc.proofs.ChangeLemmas.{at_ok, section_added, section_joined}
-use Rattle.attr_doc.proofs.RoomLemmas.{other_values_stay, others_after}
+use Rattle.attr_doc.proofs.{ChangeLemmas.{at_ok, section_added, section_joined}, RoomLemmas.{other_values_stay, others_after}}
 use Rattle.attr_doc.proofs.merge.move_section.Goals as goal
 
 pub unwrap-requires : goal.unwrap-requires

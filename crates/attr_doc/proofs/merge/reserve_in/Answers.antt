@@ -1,7 +1,5 @@
-use Rattle.std.proofs.Common.{refl}
-use Rattle.std.proofs.lemmas.Result.{on_ok_weaker}
-use Rattle.attr_doc.proofs.ChangeLemmas.{section_stays}
-use Rattle.attr_doc.proofs.RoomLemmas.{has_room_at, keeps_room}
+use Rattle.std.proofs.{Common.refl, lemmas.Result.on_ok_weaker}
+use Rattle.attr_doc.proofs.{ChangeLemmas.section_stays, RoomLemmas.{has_room_at, keeps_room}}
 use Rattle.attr_doc.proofs.merge.reserve_in.Goals as goal
 
 pub returns-in-Some-clause-sections : goal.returns-in-Some-clause-sections

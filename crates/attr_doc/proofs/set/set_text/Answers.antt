@@ -1,6 +1,5 @@
 -- An existing section changes by one insertion into its map. A new one is made with its text, and then inserted.
-use Rattle.std.proofs.Common.{◌≡◌, [], ap, option_map, string_bytes, refl, ◌∙◌}
-use Rattle.std.proofs.lemmas.Result.{IfOk-weaker, on_err_weaker, on_ok_weaker}
+use Rattle.std.proofs.{Common.{◌≡◌, [], ap, option_map, string_bytes, refl, ◌∙◌}, lemmas.Result.{IfOk-weaker, on_err_weaker, on_ok_weaker}}
 use Rattle.std.specs.Str.{str_eq_ignore_ascii_case}
 use Rattle.vecmap.specs.Pairs.{put}
 use Rattle.attr_doc.proofs.ChangeLemmas.{at_ok, section_stays, set_new, set_there}

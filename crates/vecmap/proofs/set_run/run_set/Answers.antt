@@ -1,7 +1,6 @@
 -- The idea: each round extends the run by one step, and after the last round the run has all commands.
-use Rattle.std.proofs.Common.{◌≡◌, [], arith, append_assoc, ap, ◌∙◌, ◌++◌}
+use Rattle.std.proofs.{Common.{◌≡◌, [], arith, append_assoc, ap, ◌∙◌, ◌++◌}, lemmas.{Grind.common_steps, List.append-nil}}
 use Rattle.std.specs.Vec.Iter.{into_iter_items}
-use Rattle.std.proofs.lemmas.{Grind.common_steps, List.append-nil}
 use Rattle.vecmap.proofs.RunLemmas.{run_set_push}
 use Rattle.vecmap.proofs.set_run.run_set.Goals as goal
 

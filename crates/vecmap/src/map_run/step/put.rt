@@ -1,8 +1,7 @@
 //! The insertion that `OrInsert` makes: of a pair whose key is new.
 ghost use Rattle.std.specs.Prelude.{◌≡◌, IfOk, OnErr, OnOk, is_some, not, unwrap_or};
 ghost use Rattle.vecmap_base.specs.Pairs.{index_of, index_or_length, lookup, put};
-ghost use Rattle.vecmap_map.specs.Contents.{KeepsRoom, Refuses};
-ghost use Rattle.vecmap_map.specs.Entry.{entry_index_of};
+ghost use Rattle.vecmap_map.specs.{Contents.{KeepsRoom, Refuses}, Entry.entry_index_of};
 
 use vecmap_base::Refused;
 use vecmap_map::{Entry, VecMap};

@@ -1,6 +1,5 @@
 //! Commands that read, whose replies are clones.
-ghost use Rattle.std.specs.Prelude.{IfOk, OnErr, option_copied, option_map};
-ghost use Rattle.std.specs.Map.Iter.{deref_pair};
+ghost use Rattle.std.specs.{Prelude.{IfOk, OnErr, option_copied, option_map}, Map.Iter.deref_pair};
 ghost use Rattle.vecmap.specs.MapRun.{RepliesPair, RepliesPairs, RepliesValue};
 
 use super::MapReply;

@@ -1,7 +1,5 @@
-use Rattle.std.proofs.Common.{◌∙◌, ap, arith, position, refl, rules, sym, ◌+◌}
-use Rattle.std.proofs.lemmas.List.{take_all}
-use Rattle.vecmap_base.proofs.IndexLemmas.{none_before_next, position_at}
-use Rattle.vecmap_base.proofs.PairsLemmas.ByIndex.{index_by_is}
+use Rattle.std.proofs.{Common.{◌∙◌, ap, arith, position, refl, rules, sym, ◌+◌}, lemmas.List.take_all}
+use Rattle.vecmap_base.proofs.{IndexLemmas.{none_before_next, position_at}, PairsLemmas.ByIndex.index_by_is}
 use Rattle.vecmap_base.proofs.DuplicatesLemmas.Comparisons.{key_search_absent, key_search_found}
 use Rattle.vecmap_base.proofs.duplicates.find_counted.Goals as goal
 

@@ -6,9 +6,8 @@ use Rattle.std.proofs.lemmas.{Map.Entries.length-values_of, List.length_push, Li
 use Rattle.std.proofs.lemmas.List.Sorted.{IsPermutation-trans, IsPermutation-map, IsPermutation-swap}
 use Rattle.vecmap_base.specs.{Comparisons.comparisons, Comparisons.search_cost, Pairs.index_of, Pairs.put, Pairs.puts}
 use Rattle.vecmap_base.proofs.DuplicatesLemmas.{Comparisons.key_comparisons_below, Comparisons.key_comparisons_more, Gather.front_put, Gather.front_swapped, Gather.rest_more}
-use Rattle.vecmap_base.proofs.PairsLemmas.Puts.{puts_more, put_absent}
+use Rattle.vecmap_base.proofs.{PairsLemmas.Puts.{puts_more, put_absent}, duplicates.gather_pairs.Goals.{in-None, in-Some}}
 use Rattle.vecmap_base.proofs.duplicates.gather_pairs.Goals as goal
-use Rattle.vecmap_base.proofs.duplicates.gather_pairs.Goals.{in-None, in-Some}
 
 pub find_counted-requires : goal.find_counted-requires
 find_counted-requires g c = record {

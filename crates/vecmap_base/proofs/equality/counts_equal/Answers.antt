@@ -1,6 +1,4 @@
-use Rattle.std.proofs.Common.{◌∙◌, rules, tests}
-use Rattle.std.proofs.lemmas.Iterator.{YieldsList-from_slice}
-use Rattle.std.proofs.lemmas.Iterator.Search.{all_from_yields_List}
+use Rattle.std.proofs.{Common.{◌∙◌, rules, tests}, lemmas.Iterator.YieldsList-from_slice, lemmas.Iterator.Search.all_from_yields_List}
 use Rattle.vecmap_base.specs.Equality.{same_pair}
 use Rattle.vecmap_base.proofs.EqualityLemmas.Partial.{counts_agree_by_occurrence, occurs_alike, same_pair_partial}
 use Rattle.vecmap_base.proofs.equality.counts_equal.Goals as goal

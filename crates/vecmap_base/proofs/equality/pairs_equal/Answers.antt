@@ -1,7 +1,6 @@
 -- Equal pairs at the front do not matter, so the remaining pairs decide. They have one length, so the counts of one
 -- side are enough.
-use Rattle.std.proofs.Common.{◌≡◌, [], arith, drop, length, sym, ◌∙◌}
-use Rattle.std.proofs.lemmas.List.{drop_all, length-drop, take_rest}
+use Rattle.std.proofs.{Common.{◌≡◌, [], arith, drop, length, sym, ◌∙◌}, lemmas.List.{drop_all, length-drop, take_rest}}
 use Rattle.vecmap_base.specs.Equality.{counts_agree, has_same_counts}
 use Rattle.vecmap_base.proofs.EqualityLemmas.Partial.{partial_map_equal_by_half, partial_map_lengths_differ}
 use Rattle.vecmap_base.proofs.EqualityLemmas.Fronts.{past_front}

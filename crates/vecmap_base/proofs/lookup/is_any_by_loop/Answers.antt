@@ -1,5 +1,4 @@
-use Rattle.std.proofs.Common.{arith}
-use Rattle.std.proofs.lemmas.Grind.{common_steps}
+use Rattle.std.proofs.{Common.arith, lemmas.Grind.common_steps}
 use Rattle.vecmap_base.proofs.DuplicatesLemmas.SearchCost.{search_cost_first, search_cost_none}
 use Rattle.vecmap_base.proofs.lookup.is_any_by_loop.Goals as goal
 

@@ -1,8 +1,6 @@
 -- Before the first equal key no pair is the same. The loop keeps that none before `at` is both unmarked and the same.
-use Rattle.std.proofs.Common.{◌≡◌, ◌&&◌, Bool, ap, arith, false, get_or, not, sym, true, ◌∙◌}
-use Rattle.std.proofs.lemmas.Bool.{and_from}
-use Rattle.std.proofs.lemmas.List.{get_or_default}
-use Rattle.std.proofs.lemmas.List.Quantifiers.{position-Some}
+use Rattle.std.proofs.{Common.{◌≡◌, ◌&&◌, Bool, ap, arith, false, get_or, not, sym, true, ◌∙◌}, lemmas.Bool.and_from}
+use Rattle.std.proofs.{lemmas.List.get_or_default, lemmas.List.Quantifiers.position-Some}
 use Rattle.vecmap_base.specs.Equality.{same_pair}
 use Rattle.vecmap_base.proofs.PairsLemmas.ByIndex.{index_by_is}
 use Rattle.vecmap_base.proofs.MatchingLemmas.{none_free, none_free_absent, none_free_before, none_free_next, other_value}

@@ -1,7 +1,6 @@
 use Rattle.std.proofs.Common.{◌≡◌, ◌&&◌, Bool, ap, arith, length, sym, true, ◌∙◌}
 use Rattle.vecmap_base.specs.Equality.{same_pair}
-use Rattle.vecmap_base.proofs.EqualityLemmas.Partial.{same_pair_partial}
-use Rattle.vecmap_base.proofs.MatchingLemmas.{one_differs, two_agree_at}
+use Rattle.vecmap_base.proofs.{EqualityLemmas.Partial.same_pair_partial, MatchingLemmas.{one_differs, two_agree_at}}
 use Rattle.vecmap_base.proofs.matching.pairs_match_crosswise.Goals as goal
 
 pub returns-then-a-eq1 : goal.returns-then-a-eq1

@@ -5,8 +5,7 @@ use Rattle.vecmap_base.proofs.PairsLemmas.Indices.{lookup_by_map_values}
 use Rattle.vecmap_base.proofs.UpdatedLemmas.{computed, computed_always, keys_stopped, keys_updated}
 use Rattle.vecmap_base.proofs.UpdatedSteps.{all_updated, callable_next, one_updated, split, written_split}
 use Rattle.vecmap_base.proofs.try_update.try_update_pairs.Goals as goal
-use Rattle.vecmap_base.specs.Pairs.{lookup_by}
-use Rattle.vecmap_base.specs.Updated.{CallableAtValue, WritesValueAt}
+use Rattle.vecmap_base.specs.{Pairs.lookup_by, Updated.{CallableAtValue, WritesValueAt}}
 
 pub try_value-requires : goal.try_value-requires
 try_value-requires g c =

@@ -1,5 +1,4 @@
-use Rattle.std.proofs.Common.{arith, ◌+◌, ◌*◌}
-use Rattle.std.proofs.lemmas.Grind.{common_steps}
+use Rattle.std.proofs.{Common.{arith, ◌+◌, ◌*◌}, lemmas.Grind.common_steps}
 use Rattle.vecmap_base.proofs.IndexLemmas.{position_at}
 use Rattle.vecmap_base.proofs.unrolled.find_item_unrolled.Goals as goal
 

@@ -1,6 +1,5 @@
 -- Each comparison that fails adds one item to the front in which no item matches.
-use Rattle.std.proofs.Common.{◌≡◌, ◌+◌, None, arith, position, take}
-use Rattle.std.proofs.lemmas.Grind.{common_steps}
+use Rattle.std.proofs.{Common.{◌≡◌, ◌+◌, None, arith, position, take}, lemmas.Grind.common_steps}
 use Rattle.vecmap_base.proofs.IndexLemmas.{position_at}
 use Rattle.vecmap_base.proofs.unrolled.find_of_eight.Goals as goal
 

@@ -1,5 +1,4 @@
-use Rattle.std.proofs.Common.{◌≡◌, ◌+◌, ◌*◌, ◌/◌, None, arith, length, position, take}
-use Rattle.std.proofs.lemmas.Grind.{common_steps}
+use Rattle.std.proofs.{Common.{◌≡◌, ◌+◌, ◌*◌, ◌/◌, None, arith, length, position, take}, lemmas.Grind.common_steps}
 use Rattle.vecmap_base.proofs.IndexLemmas.{none_before_next, position_at}
 use Rattle.vecmap_base.proofs.unrolled.find_pair_unrolled.Goals as goal
 

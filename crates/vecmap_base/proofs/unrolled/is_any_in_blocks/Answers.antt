@@ -1,7 +1,5 @@
-use Rattle.std.proofs.Common.{arith, ◌+◌, ◌*◌, ◌/◌, length}
-use Rattle.std.proofs.lemmas.Grind.{common_steps}
-use Rattle.vecmap_base.proofs.IndexLemmas.{list_any_front}
-use Rattle.vecmap_base.proofs.DuplicatesLemmas.SearchCost.{search_cost_none, search_cost_past}
+use Rattle.std.proofs.{Common.{arith, ◌+◌, ◌*◌, ◌/◌, length}, lemmas.Grind.common_steps}
+use Rattle.vecmap_base.proofs.{IndexLemmas.list_any_front, DuplicatesLemmas.SearchCost.{search_cost_none, search_cost_past}}
 use Rattle.vecmap_base.proofs.unrolled.is_any_in_blocks.Goals as goal
 
 pub returns-then-is_any_of_eight-clause-found : goal.returns-then-is_any_of_eight-clause-found

@@ -1,12 +1,10 @@
 -- The loop keeps `UpdatedSoFar`: each pair stays where it is, as it was written.
 use Rattle.std.proofs.Common.{ap, arith, ◌∙◌}
 use Rattle.std.specs.Prelude.{◌≤◌, length}
-use Rattle.vecmap_base.proofs.PairsLemmas.Indices.{lookup_by_map_values}
-use Rattle.vecmap_base.proofs.UpdatedLemmas.{computed, computed_always, keys_updated}
+use Rattle.vecmap_base.proofs.{PairsLemmas.Indices.lookup_by_map_values, UpdatedLemmas.{computed, computed_always, keys_updated}}
 use Rattle.vecmap_base.proofs.UpdatedSteps.{all_updated, callable_next, one_updated}
 use Rattle.vecmap_base.proofs.update.update_pairs.Goals as goal
-use Rattle.vecmap_base.specs.Pairs.{lookup_by}
-use Rattle.vecmap_base.specs.Updated.{CallableAtValue, WritesValueAt}
+use Rattle.vecmap_base.specs.{Pairs.lookup_by, Updated.{CallableAtValue, WritesValueAt}}
 
 pub write_value-requires : goal.write_value-requires
 write_value-requires g c =

@@ -1,6 +1,5 @@
 use Rattle.std.proofs.Common.{◌<◌}
-use Rattle.std.specs.List.{All}
-use Rattle.std.specs.Map.{values_of}
+use Rattle.std.specs.{List.All, Map.values_of}
 use Rattle.vecmap.specs.Iterators.{iter_mut_rest}
 use Rattle.vecmap_callers.proofs.iteration.add_one.Given as goal
 

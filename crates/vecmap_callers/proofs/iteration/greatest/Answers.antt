@@ -1,7 +1,5 @@
-use Rattle.std.proofs.Common.{rules, ◌≡◌, ℕ, ◌≤◌, map, nat_eq}
+use Rattle.std.proofs.{Common.{rules, ◌≡◌, ℕ, ◌≤◌, map, nat_eq}, lemmas.List.Elements.All-map, lemmas.Map.Iter.iter_end}
 use Rattle.std.specs.Map.Iter.{deref_pair}
-use Rattle.std.proofs.lemmas.List.Elements.{All-map}
-use Rattle.std.proofs.lemmas.Map.Iter.{iter_end}
 use Rattle.vecmap_laws.proofs.EachValue.{holds_of_found}
 use Rattle.vecmap_callers.proofs.iteration.greatest.Goals as goal
 

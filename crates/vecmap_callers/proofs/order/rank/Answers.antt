@@ -1,5 +1,4 @@
-use Rattle.std.proofs.Common.{rules, ℕ}
-use Rattle.std.proofs.lemmas.List.MinMax.{IsStrictWeakOrder-by_number, IsStrictWeakOrder-flip}
+use Rattle.std.proofs.{Common.{rules, ℕ}, lemmas.List.MinMax.{IsStrictWeakOrder-by_number, IsStrictWeakOrder-flip}}
 use Rattle.vecmap_callers.proofs.order.rank.Goals as goal
 
 pub returns-clause-sorted : goal.returns-clause-sorted

@@ -1,5 +1,4 @@
-use Rattle.std.proofs.Common.{◌∙◌}
-use Rattle.std.proofs.lemmas.Iterator.Adapters.{YieldsList-from_vec, items_from_extend}
+use Rattle.std.proofs.{Common.{◌∙◌}, lemmas.Iterator.Adapters.{YieldsList-from_vec, items_from_extend}}
 use Rattle.vecmap_callers.proofs.StoppedLemmas.{first_items}
 use Rattle.vecmap_callers.proofs.traits.put_all.Goals as goal
 

@@ -1,6 +1,4 @@
-use Rattle.vecmap_laws.proofs.Queries.{same_text, text_respects}
-use Rattle.vecmap_laws.proofs.TextQueries.{same_texts}
-use Rattle.vecmap_laws.proofs.WriteLemmas.{texts_apart}
+use Rattle.vecmap_laws.proofs.{Queries.{same_text, text_respects}, TextQueries.same_texts, WriteLemmas.texts_apart}
 use Rattle.vecmap_laws.proofs.lists.texts_are_queries.Goals as goal
 
 pub returns : goal.returns

@@ -1,7 +1,5 @@
-use Rattle.std.proofs.lemmas.Grind.{common_steps}
-use Rattle.std.proofs.Common.{arith}
-use Rattle.vecmap_base.proofs.PairsLemmas.Parts.{joins_of_puts}
-use Rattle.vecmap_base.proofs.PairsLemmas.Puts.{length_puts_at_most}
+use Rattle.std.proofs.{lemmas.Grind.common_steps, Common.arith}
+use Rattle.vecmap_base.proofs.{PairsLemmas.Parts.joins_of_puts, PairsLemmas.Puts.length_puts_at_most}
 use Rattle.vecmap_map.proofs.VecMap.append.Goals as goal
 
 pub returns-clause-entries : goal.returns-clause-entries

@@ -1,6 +1,5 @@
 use Rattle.vecmap_map.proofs.EntryLemmas.Puts.{entries_swap_without_by, entries_with_put, entries_without_by, entry_value_is}
-use Rattle.vecmap_base.proofs.InsertionLemmas.{adds_key}
-use Rattle.vecmap_base.proofs.RemovalLemmas.{removes_by, swap_removes_by}
+use Rattle.vecmap_base.proofs.{InsertionLemmas.adds_key, RemovalLemmas.{removes_by, swap_removes_by}}
 use Rattle.vecmap_map.proofs.VecMap.entry.Goals as goal
 
 pub returns-clause-insertion : goal.returns-clause-insertion

@@ -1,6 +1,5 @@
 -- The call stops at the insertion that runs out of memory.
-use Rattle.std.proofs.Common.{ap, arith, inr, rules, ◌∙◌}
-use Rattle.std.proofs.lemmas.{Grind.common_steps, Result.err_from_is_err_and}
+use Rattle.std.proofs.{Common.{ap, arith, inr, rules, ◌∙◌}, lemmas.{Grind.common_steps, Result.err_from_is_err_and}}
 use Rattle.vecmap_base.specs.Pairs.{puts}
 use Rattle.vecmap_base.proofs.PairsLemmas.{Parts.joins_of_puts, Puts.length_put_at_most}
 use Rattle.vecmap_map.proofs.VecMap.extend.Goals as goal

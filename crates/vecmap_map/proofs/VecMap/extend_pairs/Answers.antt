@@ -1,12 +1,9 @@
 -- The idea: each round appends a clone to the list of clones that the invariant names, and the call stops in the round
 -- in which memory runs out.
-use Rattle.std.proofs.Common.{arith, inr, rules, sym, true≢false}
-use Rattle.std.proofs.lemmas.{Grind.common_steps, Result.err_from_is_err_and}
+use Rattle.std.proofs.{Common.{arith, inr, rules, sym, true≢false}, lemmas.{Grind.common_steps, Result.err_from_is_err_and}}
 use Rattle.std.specs.Map.Iter.{deref}
 use Rattle.vecmap_base.specs.{Clones.IsPairClone, Pairs.put}
-use Rattle.vecmap_base.proofs.CloneLemmas.{lent_clone_taken}
-use Rattle.vecmap_base.proofs.PairsLemmas.Puts.{length_put_at_most}
-use Rattle.vecmap_base.proofs.PairsLemmas.Parts.{joins_of_puts}
+use Rattle.vecmap_base.proofs.{CloneLemmas.lent_clone_taken, PairsLemmas.Puts.length_put_at_most, PairsLemmas.Parts.joins_of_puts}
 use Rattle.vecmap_map.proofs.VecMap.extend_pairs.Goals as goal
 
 pub loop-pair-preserved : goal.loop-pair-preserved

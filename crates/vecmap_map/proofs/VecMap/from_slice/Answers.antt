@@ -1,10 +1,7 @@
-use Rattle.std.proofs.Common.{◌+◌, ◌∷◌, [], ◌++◌, ap, arith, sym, subst, take, ◌∙◌, ◌≡◌}
-use Rattle.std.proofs.lemmas.List.{take_all, take_more}
-use Rattle.std.proofs.lemmas.Map.Entries.{entries_from_clone}
-use Rattle.std.proofs.lemmas.Slice.Zip.{AllZip-long}
+use Rattle.std.proofs.{Common.{◌+◌, ◌∷◌, [], ◌++◌, ap, arith, sym, subst, take, ◌∙◌, ◌≡◌}, lemmas.List.{take_all, take_more}}
+use Rattle.std.proofs.{lemmas.Map.Entries.entries_from_clone, lemmas.Slice.Zip.AllZip-long}
 use Rattle.vecmap_base.specs.{Clones.AreClones, Clones.IsPairClone, Pairs.put, Pairs.puts}
-use Rattle.vecmap_base.proofs.CloneLemmas.{TakesClones, clone_taken}
-use Rattle.vecmap_base.proofs.PairsLemmas.Puts.{length_puts_at_most}
+use Rattle.vecmap_base.proofs.{CloneLemmas.{TakesClones, clone_taken}, PairsLemmas.Puts.length_puts_at_most}
 use Rattle.vecmap_map.proofs.MadeLemmas.{distinct_of_puts, found_in_puts}
 use Rattle.vecmap_map.proofs.VecMap.from_slice.Goals as goal
 

@@ -1,5 +1,4 @@
-use Rattle.std.proofs.Common.{arith, ap, slice_get, sym, Some, ◌∙◌, ◌≡◌}
-use Rattle.std.proofs.lemmas.Option.{same_Some}
+use Rattle.std.proofs.{Common.{arith, ap, slice_get, sym, Some, ◌∙◌, ◌≡◌}, lemmas.Option.same_Some}
 use Rattle.vecmap_base.proofs.PairsLemmas.ByIndex.{pair_found, pair_read}
 use Rattle.vecmap_map.proofs.VecMap.get_full.Goals as goal
 

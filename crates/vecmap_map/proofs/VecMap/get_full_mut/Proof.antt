@@ -13,8 +13,7 @@ use Rattle.vecmap_base.specs.Pairs.{index_by, lookup_pair_by}
 use Rattle.vecmap_base.proofs.PairsLemmas.ByIndex.{lookup_pair_by_index}
 use Rattle.std.specs.contracts.option.Option as OP
 use Rattle.vecmap_map.proofs.LentLemmas.Parts.{then_runs, beside, by_parts, by_index, some_of, none_of, index_then, stays_at_none}
-use Rattle.vecmap_map.specs.Lends.{lends_value_at, lends_beside_index}
-use Rattle.vecmap_map.specs.contracts.VecMap.{the_row}
+use Rattle.vecmap_map.specs.{Lends.{lends_value_at, lends_beside_index}, contracts.VecMap.the_row}
 use Rattle.vecmap_map.specs.contracts.VecMap.index_and_map as A
 use Rattle.vecmap_map.proofs.VecMap.index_and_map.Met as A-thm
 use Rattle.vecmap_map.specs.contracts.VecMap.full_mut as B

@@ -1,5 +1,4 @@
-use Rattle.std.proofs.Common.{Some, ap, slice_get, sym, ◌∙◌, ◌≡◌}
-use Rattle.std.proofs.lemmas.Option.{slice_get-get_or}
+use Rattle.std.proofs.{Common.{Some, ap, slice_get, sym, ◌∙◌, ◌≡◌}, lemmas.Option.slice_get-get_or}
 use Rattle.vecmap_base.proofs.PairsLemmas.AtIndices.{found_at}
 use Rattle.vecmap_map.proofs.VecMap.get_index.Goals as goal
 

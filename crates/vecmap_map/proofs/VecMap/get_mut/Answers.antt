@@ -1,8 +1,5 @@
-use Rattle.std.proofs.Common.{arith}
-use Rattle.std.proofs.lemmas.Map.{keys-set_value}
-use Rattle.vecmap_base.proofs.PairsLemmas.AtIndices.{keeps_indices}
-use Rattle.vecmap_base.proofs.PairsLemmas.ByIndex.{by_index}
-use Rattle.vecmap_base.proofs.PairsLemmas.Updates.{updates_write}
+use Rattle.std.proofs.{Common.arith, lemmas.Map.keys-set_value}
+use Rattle.vecmap_base.proofs.{PairsLemmas.AtIndices.keeps_indices, PairsLemmas.ByIndex.by_index, PairsLemmas.Updates.updates_write}
 use Rattle.vecmap_map.proofs.VecMap.get_mut.Goals as goal
 
 pub returns-in-Some : goal.returns-in-Some

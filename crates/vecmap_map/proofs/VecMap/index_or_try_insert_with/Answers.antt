@@ -1,8 +1,7 @@
 -- The idea: the made pair is at the index after the others, as no key before it matches the query.
 use Rattle.std.proofs.Common.{◌≡◌, ◌∙◌, None, Some, ap, inr, is_some, subst, sym, true≢false}
 use Rattle.vecmap_base.specs.Pairs.{index_by, lookup_by}
-use Rattle.vecmap_base.proofs.PairsLemmas.AtIndices.{match_at}
-use Rattle.vecmap_base.proofs.PairsLemmas.ByIndex.{index_by_appended}
+use Rattle.vecmap_base.proofs.{PairsLemmas.AtIndices.match_at, PairsLemmas.ByIndex.index_by_appended}
 use Rattle.vecmap_base.proofs.PairsLemmas.Updates.{updates_appended_found, updates_matched, updates_written_at}
 use Rattle.vecmap_map.proofs.ContentsLemmas.{appends_made, finds_match}
 use Rattle.vecmap_map.proofs.VecMap.index_or_try_insert_with.Goals as goal

@@ -1,6 +1,5 @@
 use Rattle.std.proofs.Common.{arith}
-use Rattle.vecmap_base.proofs.InsertionLemmas.{adds_key}
-use Rattle.vecmap_base.proofs.PairsLemmas.ByIndex.{put_by_index, value_found, value_written}
+use Rattle.vecmap_base.proofs.{InsertionLemmas.adds_key, PairsLemmas.ByIndex.{put_by_index, value_found, value_written}}
 use Rattle.vecmap_map.proofs.VecMap.insert.Goals as goal
 
 pub returns-in-Some-clause-insertion : goal.returns-in-Some-clause-insertion

@@ -1,6 +1,5 @@
 use Rattle.std.proofs.Common.{arith, ap, sym, Some, ◌∙◌}
-use Rattle.vecmap_base.proofs.InsertionLemmas.{adds_key}
-use Rattle.vecmap_base.proofs.PairsLemmas.AtIndices.{match_at}
+use Rattle.vecmap_base.proofs.{InsertionLemmas.adds_key, PairsLemmas.AtIndices.match_at}
 use Rattle.vecmap_base.proofs.PairsLemmas.ByIndex.{put_by_index, value_found, value_written}
 use Rattle.vecmap_map.proofs.VecMap.insert_full.Goals as goal
 

@@ -1,6 +1,5 @@
 use Rattle.std.proofs.Common.{arith}
-use Rattle.vecmap_base.proofs.InsertionLemmas.{puts_key}
-use Rattle.vecmap_base.proofs.PairsLemmas.ByIndex.{by_index, pair_found, put_key_by_index}
+use Rattle.vecmap_base.proofs.{InsertionLemmas.puts_key, PairsLemmas.ByIndex.{by_index, pair_found, put_key_by_index}}
 use Rattle.vecmap_base.proofs.RemovalLemmas.{finds_pair}
 use Rattle.vecmap_map.proofs.VecMap.insert_key.Goals as goal
 

@@ -1,6 +1,5 @@
 use Rattle.std.proofs.Common.{arith}
-use Rattle.vecmap_base.proofs.PairsLemmas.ByIndex.{by_index}
-use Rattle.vecmap_base.proofs.RemovalLemmas.{finds_pair, removes_by}
+use Rattle.vecmap_base.proofs.{PairsLemmas.ByIndex.by_index, RemovalLemmas.{finds_pair, removes_by}}
 use Rattle.vecmap_map.proofs.VecMap.remove_entry.Goals as goal
 
 pub returns-in_err-index-clause-pair : goal.returns-in_err-index-clause-pair

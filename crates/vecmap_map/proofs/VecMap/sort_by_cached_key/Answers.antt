@@ -1,5 +1,4 @@
-use Rattle.std.proofs.Common.{ap, refl, subst, sym, ◌∙◌, ◌≡◌}
-use Rattle.std.proofs.lemmas.{Fn.answers_by, Result.on_ok_weaker}
+use Rattle.std.proofs.{Common.{ap, refl, subst, sym, ◌∙◌, ◌≡◌}, lemmas.{Fn.answers_by, Result.on_ok_weaker}}
 use Rattle.vecmap_base.specs.Orders.{ReturnsOnPair}
 use Rattle.vecmap_base.proofs.PairsLemmas.Reordered.{reordered}
 use Rattle.vecmap_map.proofs.VecMap.sort_by_cached_key.Goals as goal

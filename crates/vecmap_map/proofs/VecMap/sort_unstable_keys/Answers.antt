@@ -1,5 +1,4 @@
-use Rattle.std.proofs.Common.{rules}
-use Rattle.std.proofs.lemmas.List.Sorted.{ranks_by}
+use Rattle.std.proofs.{Common.rules, lemmas.List.Sorted.ranks_by}
 use Rattle.vecmap_map.proofs.VecMap.sort_unstable_keys.Goals as goal
 
 pub returns-clause-sorted : goal.returns-clause-sorted

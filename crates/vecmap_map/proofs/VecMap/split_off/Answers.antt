@@ -1,5 +1,4 @@
-use Rattle.std.proofs.Common.{arith, drop, rules, take}
-use Rattle.std.proofs.lemmas.List.{take-append-drop}
+use Rattle.std.proofs.{Common.{arith, drop, rules, take}, lemmas.List.take-append-drop}
 use Rattle.vecmap_base.proofs.PairsLemmas.Parts.{keeps_front_of, keys_of_parts, lookup_by_append}
 use Rattle.vecmap_map.proofs.VecMap.split_off.Goals as goal
 

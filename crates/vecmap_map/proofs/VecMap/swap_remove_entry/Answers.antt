@@ -1,6 +1,5 @@
 use Rattle.std.proofs.Common.{arith}
-use Rattle.vecmap_base.proofs.PairsLemmas.ByIndex.{by_index, pair_found, swapped_out}
-use Rattle.vecmap_base.proofs.RemovalLemmas.{finds_pair, swap_removes_by}
+use Rattle.vecmap_base.proofs.{PairsLemmas.ByIndex.{by_index, pair_found, swapped_out}, RemovalLemmas.{finds_pair, swap_removes_by}}
 use Rattle.vecmap_map.proofs.VecMap.swap_remove_entry.Goals as goal
 
 pub returns-in_err-index-clause-pair : goal.returns-in_err-index-clause-pair

@@ -1,5 +1,4 @@
-use Rattle.std.proofs.Common.{arith}
-use Rattle.std.proofs.lemmas.Option.{gets}
+use Rattle.std.proofs.{Common.arith, lemmas.Option.gets}
 use Rattle.vecmap_base.proofs.RemovalLemmas.{swap_removes_at}
 use Rattle.vecmap_map.proofs.VecMap.swap_remove_index.Goals as goal
 

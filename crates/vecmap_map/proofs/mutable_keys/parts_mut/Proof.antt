@@ -6,11 +6,9 @@ use Steps.{SProp, emp, id⊢, ex, ftrue, flft, fsep, GName, ‵, raw, ◌⊛◌,
 use Steps.{agg, enter, addr, stop, fld, no_more, and_then, returns, alloc_all, pass_all, free_all, look_at, get, through, sets, proved, leaves}
 use Steps.{no, RattleType, plain, RefMutOf, MutBor, mut_vals, mut_Tells, MutRef, param, layouts, nothing}
 use Steps.{fact, fact_i, tables, Vals, Stays, stay_dropped, walk_of, Goes-dropped}
-use Rattle.vecmap_map.proofs.LentLemmas.Both.{P, Both, parts_of, both_val, cuts, Cut}
-use Rattle.vecmap_map.specs.Lends.{lends_parts}
-use Rattle.vecmap_map.specs.contracts.mutable_keys.parts_mut.{ended, clauses}
+use Rattle.vecmap_map.proofs.{LentLemmas.Both.{P, Both, parts_of, both_val, cuts, Cut}, mutable_keys.parts_mut.Statement.statement}
+use Rattle.vecmap_map.specs.{Lends.lends_parts, contracts.mutable_keys.parts_mut.{ended, clauses}}
 use Rattle.vecmap_map.specs.contracts.mutable_keys.parts_mut.Key.{name as #self}
-use Rattle.vecmap_map.proofs.mutable_keys.parts_mut.Statement.{statement}
 use Rattle.vecmap_map.proofs.mutable_keys.parts_mut.Code as code
 
 pub parts_mut_spec : {M : Type 1} → statement M

@@ -1,5 +1,4 @@
-use Rattle.std.proofs.Common.{FitsSigned, Some, ap, rules, sym, w64, ◌∙◌}
-use Rattle.std.proofs.lemmas.Int.{to_z-of_z}
+use Rattle.std.proofs.{Common.{FitsSigned, Some, ap, rules, sym, w64, ◌∙◌}, lemmas.Int.to_z-of_z}
 use Rattle.vecmap_run.proofs.TextLemmas.{write_found}
 use Rattle.vecmap_run.proofs.answer.insert.Goals as goal
 

@@ -1,8 +1,6 @@
-use Rattle.std.proofs.Common.{FitsSigned, None, string_eq, subst, sym, w64, ◌∙◌, ◌≡◌}
-use Rattle.std.proofs.lemmas.Int.{to_z-of_z}
+use Rattle.std.proofs.{Common.{FitsSigned, None, string_eq, subst, sym, w64, ◌∙◌, ◌≡◌}, lemmas.Int.to_z-of_z}
 use Rattle.vecmap.specs.Pairs.{has_text, lookup, lookup_by}
-use Rattle.vecmap_base.proofs.PairsLemmas.ByIndex.{index_by_none}
-use Rattle.vecmap_base.proofs.PairsLemmas.Puts.{put_absent}
+use Rattle.vecmap_base.proofs.{PairsLemmas.ByIndex.index_by_none, PairsLemmas.Puts.put_absent}
 use Rattle.vecmap_run.proofs.answer.insert_absent.Goals as goal
 
 pub returns-in-Ok-clause-ok : goal.returns-in-Ok-clause-ok

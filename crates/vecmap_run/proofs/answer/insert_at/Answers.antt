@@ -1,5 +1,4 @@
-use Rattle.std.proofs.Common.{FitsSigned, arith, w64}
-use Rattle.std.proofs.lemmas.Int.{to_z-of_z}
+use Rattle.std.proofs.{Common.{FitsSigned, arith, w64}, lemmas.Int.to_z-of_z}
 use Rattle.vecmap_run.proofs.answer.insert_at.Goals as goal
 
 pub returns-in-Ok-insert_at : goal.returns-in-Ok-insert_at

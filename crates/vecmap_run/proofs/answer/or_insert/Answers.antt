@@ -1,5 +1,4 @@
-use Rattle.std.proofs.Common.{FitsSigned, Some, ap, rules, sym, unwrap_or, w64}
-use Rattle.std.proofs.lemmas.Int.{to_z-of_z}
+use Rattle.std.proofs.{Common.{FitsSigned, Some, ap, rules, sym, unwrap_or, w64}, lemmas.Int.to_z-of_z}
 use Rattle.vecmap_run.proofs.TextLemmas.{keep_found}
 use Rattle.vecmap_run.proofs.answer.or_insert.Goals as goal
 

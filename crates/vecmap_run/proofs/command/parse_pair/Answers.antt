@@ -1,6 +1,5 @@
 -- Idea: a key has no space, so `split_once` cuts the text exactly where the grammar does.
-use Rattle.std.proofs.Common.{FitsSigned, rules, sym, w64}
-use Rattle.std.proofs.lemmas.Int.{to_z-of_z}
+use Rattle.std.proofs.{Common.{FitsSigned, rules, sym, w64}, lemmas.Int.to_z-of_z}
 use Rattle.vecmap_run.proofs.CommandLemmas.{cuts, key_no_space, must_cut, parts}
 use Rattle.vecmap_run.proofs.command.parse_pair.Goals as goal
 

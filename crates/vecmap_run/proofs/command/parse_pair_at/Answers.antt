@@ -1,6 +1,5 @@
 -- Idea: a number has no space, so `split_once` cuts the text exactly where the grammar does.
-use Rattle.std.proofs.Common.{FitsSigned, rules, sym, w64}
-use Rattle.std.proofs.lemmas.Int.{to_z-of_z}
+use Rattle.std.proofs.{Common.{FitsSigned, rules, sym, w64}, lemmas.Int.to_z-of_z}
 use Rattle.vecmap_run.proofs.CommandLemmas.{cuts, must_cut, number_first, parts}
 use Rattle.vecmap_run.proofs.command.parse_pair_at.Goals as goal
 

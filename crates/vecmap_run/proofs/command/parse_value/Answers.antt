@@ -1,5 +1,4 @@
-use Rattle.std.proofs.Common.{arith, lit<}
-use Rattle.std.proofs.lemmas.Str.Pattern.{strip_prefix_char}
+use Rattle.std.proofs.{Common.{arith, lit<}, lemmas.Str.Pattern.strip_prefix_char}
 use Rattle.vecmap_run.proofs.CommandLemmas.{value_of-plain}
 use Rattle.vecmap_run.proofs.command.parse_value.Goals as goal
 

@@ -1,6 +1,4 @@
-use Rattle.std.proofs.Common.{◌≡◌, ◌∙◌, [], ap, rules}
-use Rattle.std.proofs.KnownBytes.{Appends-of_writes}
-use Rattle.std.proofs.lemmas.Result.{on_ok_weaker}
+use Rattle.std.proofs.{Common.{◌≡◌, ◌∙◌, [], ap, rules}, KnownBytes.Appends-of_writes, lemmas.Result.on_ok_weaker}
 use Rattle.std.specs.Io.KnownBytes.{append_known}
 use Rattle.vecmap_run.specs.Buffer.{buffer_bytes}
 use Rattle.vecmap_run.proofs.BufferLemmas.{Appends-sent}

@@ -1,8 +1,6 @@
 -- Idea: the loop keeps an account of what was read and of the answers that were written. Each return closes it: with
 -- all lines at the end of the input, and with the ended lines if a read fails.
-use Rattle.std.proofs.Common.{◌≡◌, arith}
-use Rattle.std.proofs.KnownBytes.{Keeps-refl}
-use Rattle.std.proofs.lemmas.Result.{on_ok_weaker}
+use Rattle.std.proofs.{Common.{◌≡◌, arith}, KnownBytes.Keeps-refl, lemmas.Result.on_ok_weaker}
 use Rattle.vecmap_run.proofs.ServiceLemmas.{Serves-all, Serves-ended, Since-kept, Since-more}
 use Rattle.vecmap_run.proofs.serve.serve.Goals as goal
 use Rattle.vecmap_run.proofs.serve.serve.Goals.{in-Ok+in_ok-take-in-Ok, in-Err}

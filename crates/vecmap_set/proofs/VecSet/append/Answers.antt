@@ -1,5 +1,4 @@
-use Rattle.std.proofs.lemmas.Grind.{common_steps}
-use Rattle.std.proofs.Common.{arith, rules}
+use Rattle.std.proofs.{lemmas.Grind.common_steps, Common.{arith, rules}}
 use Rattle.vecmap_set.proofs.MemberLemmas.{indices_of_adds, length_of_added, length_of_adds, members_of_adds}
 use Rattle.vecmap_set.proofs.VecSet.append.Goals as goal
 

@@ -1,5 +1,4 @@
-use Rattle.vecmap_base.proofs.EqualityLemmas.Sets.{same_items}
-use Rattle.vecmap_base.proofs.ItemsLemmas.Changes.{is_member_clones}
+use Rattle.vecmap_base.proofs.{EqualityLemmas.Sets.same_items, ItemsLemmas.Changes.is_member_clones}
 use Rattle.vecmap_set.proofs.SetLemmas.{distinct_clones_of}
 use Rattle.vecmap_set.proofs.VecSet.clone.Goals as goal
 

@@ -1,5 +1,4 @@
-use Rattle.std.proofs.Common.{◌≡◌, arith, map, rules}
-use Rattle.std.proofs.lemmas.{Grind.common_steps, Result.err_from_is_err_and}
+use Rattle.std.proofs.{Common.{◌≡◌, arith, map, rules}, lemmas.{Grind.common_steps, Result.err_from_is_err_and}}
 use Rattle.std.specs.Map.Iter.{deref}
 use Rattle.vecmap_base.specs.Items.{adds}
 use Rattle.vecmap_set.proofs.MemberLemmas.{indices_of_adds, members_of_adds}

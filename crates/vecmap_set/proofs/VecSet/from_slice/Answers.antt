@@ -1,10 +1,7 @@
-use Rattle.std.proofs.Common.{◌+◌, ◌∷◌, [], ◌++◌, ap, arith, sym, subst, take, ◌∙◌, ◌≡◌}
-use Rattle.std.proofs.lemmas.List.{take_more}
-use Rattle.vecmap_base.specs.Items.{add}
+use Rattle.std.proofs.{Common.{◌+◌, ◌∷◌, [], ◌++◌, ap, arith, sym, subst, take, ◌∙◌, ◌≡◌}, lemmas.List.take_more, lemmas.Grind.common_steps}
+use Rattle.vecmap_base.specs.{Items.add, Clones.AreClones}
 use Rattle.vecmap_base.proofs.CloneLemmas.{TakesClones, clone_taken}
 use Rattle.vecmap_set.proofs.MemberLemmas.{length_of_all, length_of_clones, members_of_clones}
-use Rattle.vecmap_base.specs.Clones.{AreClones}
-use Rattle.std.proofs.lemmas.Grind.{common_steps}
 use Rattle.vecmap_set.proofs.VecSet.from_slice.Goals as goal
 
 pub loop-item-preserved : goal.loop-item-preserved

@@ -1,5 +1,4 @@
-use Rattle.std.proofs.Common.{◌≡◌, ◌∙◌, Some, ap, position, sym}
-use Rattle.std.proofs.lemmas.List.Quantifiers.{position-Some}
+use Rattle.std.proofs.{Common.{◌≡◌, ◌∙◌, Some, ap, position, sym}, lemmas.List.Quantifiers.position-Some}
 use Rattle.vecmap_set.proofs.VecSet.get.Goals as goal
 
 pub returns-clause-matched : goal.returns-clause-matched

@@ -2,8 +2,7 @@
 use Rattle.std.proofs.Common.{◌≡◌, ◌∙◌, None, Some, ap, rules, sym}
 use Rattle.vecmap_base.specs.Items.{item_index}
 use Rattle.vecmap_base.proofs.IndexLemmas.{list_any_position, position_appended}
-use Rattle.vecmap_set.proofs.IndexLemmas.{found_item_at}
-use Rattle.vecmap_set.proofs.InsertionLemmas.{adds_item}
+use Rattle.vecmap_set.proofs.{IndexLemmas.found_item_at, InsertionLemmas.adds_item}
 use Rattle.vecmap_set.proofs.VecSet.insert_full.Goals as goal
 
 pub returns-in-Some-clause-at : goal.returns-in-Some-clause-at

@@ -1,5 +1,4 @@
-use Rattle.std.proofs.Common.{arith, rules}
-use Rattle.std.proofs.lemmas.Option.{gets}
+use Rattle.std.proofs.{Common.{arith, rules}, lemmas.Option.gets}
 use Rattle.vecmap_set.proofs.RemovalLemmas.{removes_item_at}
 use Rattle.vecmap_set.proofs.VecSet.remove_index.Goals as goal
 

@@ -1,7 +1,6 @@
 use Rattle.std.proofs.Common.{rules}
 use Rattle.vecmap_base.specs.Asked.{CallsAtItem}
-use Rattle.vecmap_base.proofs.DistinctLemmas.Removals.{distinct_kept}
-use Rattle.vecmap_base.proofs.PairsLemmas.Retained.{length_kept}
+use Rattle.vecmap_base.proofs.{DistinctLemmas.Removals.distinct_kept, PairsLemmas.Retained.length_kept}
 use Rattle.vecmap_set.proofs.VecSet.retain.Goals as goal
 
 pub invariant_of-self : goal.invariant_of-self

@@ -1,5 +1,4 @@
-use Rattle.std.proofs.Common.{◌≡◌, arith, rules}
-use Rattle.std.proofs.lemmas.Option.{gets}
+use Rattle.std.proofs.{Common.{◌≡◌, arith, rules}, lemmas.Option.gets}
 use Rattle.vecmap_base.specs.Items.{swap_without}
 use Rattle.vecmap_base.proofs.DistinctLemmas.Order.{distinct_swap_without}
 use Rattle.vecmap_set.proofs.RemovalLemmas.{swap_removes_item_at}

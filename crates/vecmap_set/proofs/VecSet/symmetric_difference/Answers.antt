@@ -1,5 +1,4 @@
-use Rattle.std.proofs.Common.{ap, arith, length}
-use Rattle.std.proofs.lemmas.Grind.{common_steps}
+use Rattle.std.proofs.{Common.{ap, arith, length}, lemmas.Grind.common_steps}
 use Rattle.vecmap_set.proofs.LazyLemmas.{excludes_all}
 use Rattle.vecmap_set.proofs.VecSet.symmetric_difference.Goals as goal
 

@@ -1,6 +1,5 @@
-use Rattle.std.proofs.Common.{ap, sym, ◌∙◌}
+use Rattle.std.proofs.{Common.{ap, sym, ◌∙◌}, lemmas.Map.Made.keys_of-map_values}
 use Rattle.std.specs.Map.{keys_of}
-use Rattle.std.proofs.lemmas.Map.Made.{keys_of-map_values}
 use Rattle.attr_doc.proofs.document.Document.sections.Goals as goal
 
 pub returns-clause-names : goal.returns-clause-names

@@ -1,7 +1,6 @@
 use Rattle.std.proofs.Common.{Some, ap, nat_eq, rules, sym, ◌∙◌}
 use Rattle.vecmap_laws.proofs.WriteLemmas.{written_back}
-use Rattle.vecmap_callers.specs.declared.trees.Tree.{out-Tree}
-use Rattle.vecmap_callers.specs.declared.trees.Tree.TheViews.{the_lemmas}
+use Rattle.vecmap_callers.specs.{declared.trees.Tree.out-Tree, declared.trees.Tree.TheViews.the_lemmas}
 use Rattle.vecmap_callers.proofs.trees.Tree.+insert.Goals as goal
 
 pub returns-in_err-insert-clause-err : goal.returns-in_err-insert-clause-err

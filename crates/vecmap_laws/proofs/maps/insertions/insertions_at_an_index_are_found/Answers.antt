@@ -1,5 +1,4 @@
-use Rattle.vecmap_laws.proofs.Inserted.{lookup_put_at, lookup_put_at_absent}
-use Rattle.vecmap_laws.proofs.OtherPairs.{without_put_at}
+use Rattle.vecmap_laws.proofs.{Inserted.{lookup_put_at, lookup_put_at_absent}, OtherPairs.without_put_at}
 use Rattle.vecmap_laws.proofs.maps.insertions.insertions_at_an_index_are_found.Goals as goal
 
 pub returns-clause-new_key : goal.returns-clause-new_key

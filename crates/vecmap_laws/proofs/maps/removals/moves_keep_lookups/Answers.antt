@@ -1,5 +1,4 @@
-use Rattle.vecmap_laws.proofs.Inserted.{lookup_moved, put_at_moved}
-use Rattle.vecmap_laws.proofs.OtherPairs.{put_last}
+use Rattle.vecmap_laws.proofs.{Inserted.{lookup_moved, put_at_moved}, OtherPairs.put_last}
 use Rattle.vecmap_laws.proofs.maps.removals.moves_keep_lookups.Goals as goal
 
 pub returns-clause-moved : goal.returns-clause-moved

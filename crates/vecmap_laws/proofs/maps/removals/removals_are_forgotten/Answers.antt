@@ -1,5 +1,4 @@
-use Rattle.vecmap_laws.proofs.AfterPuts.{lookup_without_any}
-use Rattle.vecmap_laws.proofs.Lookups.{lookup_without_key, lookup_without_key_other}
+use Rattle.vecmap_laws.proofs.{AfterPuts.lookup_without_any, Lookups.{lookup_without_key, lookup_without_key_other}}
 use Rattle.vecmap_laws.proofs.maps.removals.removals_are_forgotten.Goals as goal
 use Rattle.vecmap_laws.proofs.Finds.{lookup_swap_without_key}
 

@@ -1,6 +1,5 @@
 use Rattle.std.specs.List.{IsDistinct}
-use Rattle.std.proofs.Common.{drop, take, subst, sym, ◌∙◌}
-use Rattle.std.proofs.lemmas.List.{take-append-drop}
+use Rattle.std.proofs.{Common.{drop, take, subst, sym, ◌∙◌}, lemmas.List.take-append-drop}
 use Rattle.vecmap_laws.proofs.ItemAdditions.{adds_apart}
 use Rattle.vecmap_laws.proofs.sets.removals.appending_undoes_splitting.Goals as goal
 

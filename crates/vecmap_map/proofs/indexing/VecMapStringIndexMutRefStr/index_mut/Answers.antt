@@ -1,9 +1,7 @@
 use Rattle.std.specs.Option.{option_map_or}
-use Rattle.std.proofs.Common.{◌∙◌, Some, ap, arith, string_eq, subst, sym}
+use Rattle.std.proofs.{Common.{◌∙◌, Some, ap, arith, string_eq, subst, sym}, lemmas.Map.keys-set_value}
 use Rattle.vecmap_base.specs.{Lookups.UpdatesBy, Pairs.has_text, Pairs.with_value}
-use Rattle.std.proofs.lemmas.Map.{keys-set_value}
-use Rattle.vecmap_base.proofs.PairsLemmas.AtIndices.{keeps_indices}
-use Rattle.vecmap_base.proofs.PairsLemmas.ByIndex.{by_index, set_value_by_index}
+use Rattle.vecmap_base.proofs.{PairsLemmas.AtIndices.keeps_indices, PairsLemmas.ByIndex.{by_index, set_value_by_index}}
 use Rattle.vecmap_map.proofs.indexing.VecMapStringIndexMutRefStr.index_mut.Goals as goal
 
 pub returns : goal.returns

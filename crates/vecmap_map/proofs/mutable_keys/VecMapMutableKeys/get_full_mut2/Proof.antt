@@ -17,8 +17,7 @@ use Rattle.vecmap_base.proofs.PairsLemmas.ByIndex.{lookup_pair_by_index}
 use Rattle.std.specs.contracts.option.Option as OP
 use Rattle.vecmap_map.proofs.LentLemmas.Both.{beside_index, both_index_then, by_both, stays_unlent}
 use Rattle.vecmap_map.proofs.LentLemmas.Parts.{then_runs, beside, beside_facts, by_parts, by_index, some_of, none_of}
-use Rattle.vecmap_map.specs.Lends.{lends_both_beside_index, lends_parts, lends_pair_at}
-use Rattle.vecmap_map.specs.contracts.VecMap.{the_row}
+use Rattle.vecmap_map.specs.{Lends.{lends_both_beside_index, lends_parts, lends_pair_at}, contracts.VecMap.the_row}
 use Rattle.vecmap_map.specs.contracts.VecMap.index_and_map as A
 use Rattle.vecmap_map.proofs.VecMap.index_and_map.Met as A-thm
 use Rattle.vecmap_map.specs.contracts.VecMap.whole_pair_mut as B

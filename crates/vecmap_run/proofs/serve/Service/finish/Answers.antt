@@ -1,6 +1,4 @@
-use Rattle.std.proofs.Common.{◌∙◌, [], append-nil, sym}
-use Rattle.std.proofs.KnownBytes.{Appends-nil}
-use Rattle.std.proofs.lemmas.Result.{on_ok_weaker}
+use Rattle.std.proofs.{Common.{◌∙◌, [], append-nil, sym}, KnownBytes.Appends-nil, lemmas.Result.on_ok_weaker}
 use Rattle.vecmap_run.proofs.ServiceLemmas.{answered_all, answered_rest}
 use Rattle.vecmap_run.proofs.serve.Service.finish.Goals as goal
 

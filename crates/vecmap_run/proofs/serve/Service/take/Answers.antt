@@ -1,6 +1,4 @@
-use Rattle.std.proofs.Common.{◌≡◌, arith, length}
-use Rattle.std.proofs.Math.Seq.{take-length}
-use Rattle.std.proofs.lemmas.List.{take_more}
+use Rattle.std.proofs.{Common.{◌≡◌, arith, length}, Math.Seq.take-length, lemmas.List.take_more}
 use Rattle.vecmap_run.proofs.ServiceLemmas.{GoesOn-nil, GoesOn-trans}
 use Rattle.vecmap_run.proofs.serve.Service.take.Goals as goal
 

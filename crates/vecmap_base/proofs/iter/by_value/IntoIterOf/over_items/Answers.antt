@@ -1,5 +1,4 @@
-use Rattle.std.proofs.Common.{arith}
-use Rattle.std.proofs.lemmas.Grind.{common_steps}
+use Rattle.std.proofs.{Common.arith, lemmas.Grind.common_steps}
 use Rattle.vecmap_base.proofs.WalkLemmas.{gives_in_order, gives_in_reverse}
 use Rattle.vecmap_base.proofs.iter.by_value.IntoIterOf.over_items.Goals as goal
 

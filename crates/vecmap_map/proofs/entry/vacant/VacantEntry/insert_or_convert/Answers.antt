@@ -1,5 +1,4 @@
-use Rattle.std.proofs.Common.{refl, sym, ◌∙◌}
-use Rattle.std.proofs.lemmas.Option.{same_Some}
+use Rattle.std.proofs.{Common.{refl, sym, ◌∙◌}, lemmas.Option.same_Some}
 use Rattle.vecmap_base.specs.Pairs.{value_at, with_value}
 use Rattle.vecmap_map.proofs.EntryLemmas.Written.{value_last, with_value_last}
 use Rattle.vecmap_map.proofs.entry.vacant.VacantEntry.insert_or_convert.Goals as goal
