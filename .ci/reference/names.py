@@ -39,7 +39,8 @@ def section(title):
 @functools.cache
 def rows(of_labels=False):
     """Returns what the page on contracts says of each sign, word and member of a trait, as `.eq`, or of each label."""
-    made, text = {}, section("Labels") if of_labels else read(".ci/reference/contracts.md").partition("\n# Signs")[2]
+    title = "Labels" if of_labels else "Signs"
+    made, text = {}, read(".ci/reference/contracts.md").partition(f"\n# {title}")[2].partition("\n# ")[0]
     for first, told, *_ in table_rows(text)[2:]:
         names = re.findall(r"`([^`]+)`", first.replace("\\", ""))
         each = re.split(r"; (?![^(]*\))", told)

@@ -16,7 +16,7 @@ from laws_for import public_paths
 from reference.calls import call_table
 from reference.contracts import BLOCKS, FAULTS
 from reference.forms import definition_form, definitions_of_std, doc, rust_of
-from reference.names import kit, module_of, rows, section
+from reference.names import kit, module_of, rows
 
 HERE = os.path.dirname(os.path.abspath(__file__))
 # The crate that stands for std.
@@ -51,7 +51,7 @@ def build(crate, root, needs, work, out):
 def own_pages():
     """Returns the modules whose pages are texts: how to read a contract, what is proved, all calls, and mutants."""
     place = lambda row: re.sub(r"`(\.?\w+)`", r'<span id="\1"></span>\g<0>', row[0])
-    about = re.sub(r"^\|.*?(?= \|)", place, f"{read(f'{HERE}/contracts.md')}\n# Labels\n{section('Labels')}", flags=re.M)
+    about = re.sub(r"^\|.*?(?= \|)", place, read(f"{HERE}/contracts.md"), flags=re.M)
     calls = 'All calls in one table.\n\n<div class="calls">table</div>'
     mutants = f"Wrong bodies, and what rejects them.\n\n{subprocess.getoutput('.ci/edits list')}"
     pages = {"contracts": about, "proved": read("docs/PROVED.md").removeprefix("# "), "calls": calls, "mutants": mutants}
