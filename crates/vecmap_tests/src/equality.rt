@@ -37,9 +37,9 @@ fn many_pairs(alloc: Global, value: f64) -> Result<Vec<(u32, f64)>, AllocError> 
     Ok(pairs)
 }
 
-/// Returns whether two lists of so many pairs are equal: with two values, with NaNs, and with a duplicate of 0 in place of
-/// 1 in one of them.
-fn are_many_equal(alloc: Global) -> Result<[bool; 3], AllocError> {
+/// Returns whether two lists of so many pairs are equal: with two values, with NaNs, with a duplicate of 0 in place of 1 in
+/// one of them, and if both are the same list.
+fn are_many_equal(alloc: Global) -> Result<[bool; 4], AllocError> {
     let pairs = many_pairs(alloc, 0.5)?;
     let mut others = pairs.clone()?;
     let is_equal = pairs_equal(&others, &many_pairs(alloc, 0.25)?);
@@ -52,6 +52,7 @@ fn are_many_equal(alloc: Global) -> Result<[bool; 3], AllocError> {
         is_equal,
         pairs_equal(&nans, &nans),
         pairs_equal(&others, &pairs),
+        pairs_equal(&pairs, &pairs),
     ])
 }
 
@@ -59,5 +60,5 @@ fn are_many_equal(alloc: Global) -> Result<[bool; 3], AllocError> {
 // body: `==` of maps looks from one side if there are duplicate keys, by counts
 #[test]
 fn many_pairs_are_equal_if_each_occurs_equally_often(rt: HostRuntime) {
-    assert_gives(&rt, are_many_equal(rt.alloc()), [false; 3]);
+    assert_gives(&rt, are_many_equal(rt.alloc()), [false, false, false, true]);
 }
