@@ -1,22 +1,21 @@
-"""What the scripts of this folder share: the frame, files, made crates, definitions, tables, and headings of rows.
-
-The items of a source are read by `laws_for.py`, which users of the library get without this folder.
-"""
+"""What the scripts share. The items of a source are read by `laws_for.py`, which users get without this folder."""
 
 import collections
 import functools
 import glob
 import os
+import pathlib
 import re
 import subprocess
 import sys
 
-sys.path.append(os.path.join(os.path.dirname(os.path.abspath(__file__)), "../crates/vecmap"))
+TOP = pathlib.Path(__file__).resolve().parent.parent
+sys.path.append(f"{TOP}/crates/vecmap")
 
 from laws_for import closing, items  # noqa: E402, F401
 
-# The sources, and the files of definitions and of proofs.
-TEXTS = ("crates/**/*.rt", "crates/**/*.antt")
+# The sources, the files of definitions and of proofs, and the programs that pages speak of.
+TEXTS = ("crates/**/*.rt", "crates/**/*.antt", "docs/crates/**/*.txt")
 LIBRARIES = ["vecmap_base", "vecmap_map", "vecmap_set", "vecmap"]
 LAWS = "vecmap_laws"
 # The crates whose definitions users can meet.
@@ -38,10 +37,6 @@ Definition = collections.namedtuple("Definition", "line name comment text")
 # A block of code: the line that opens it, the words there, its lines, and those of the comment right above it.
 Block = collections.namedtuple("Block", "line mark lines above")
 BLOCK = re.compile(r"^(?:<!-- ((?:(?!-->)(?:.|\n))*?)\s*-->\n)?```(.*)\n((?:.*\n)*?)```$", re.MULTILINE)
-# The first line of a block that is a file of a user's repository, or of the comment above it, has the path of the file.
-USERS_FILE = re.compile(r"(?:(?://|--|#) )?(crates[./]\S+)")
-# The script of the test cases.
-SCRIPT = "crates/vecmap_script/stdin"
 # The words that begin a line of the script that is no row, but sets the collections up.
 SET_UP = "map repeats set spare other swap again clones_fail".split()
 # A heading of the script: its part, its text, the comments below it, its other lines, and which of these are rows.
@@ -49,13 +44,11 @@ Heading = collections.namedtuple("Heading", "part text notes lines rows")
 
 
 def end(check):
-    """Ends a script: runs its check at the top of the repository, and prints the faults and the last line of it."""
-    top = os.path.join(os.path.dirname(os.path.abspath(__file__)), "..")
-    sys.argv[0] = os.path.relpath(sys.argv[0], top)
-    os.chdir(top)
+    """Runs the check that it decorates at the top of the repository, prints the faults and the last line, and exits."""
+    os.chdir(TOP)
     faults, last = check()
     print(*faults, last, sep="\n")
-    sys.exit(1 if faults else 0)
+    sys.exit(bool(faults))
 
 
 def table_rows(text):
@@ -72,39 +65,31 @@ def table(rows):
 
 def read(path):
     """Returns the text of a file. A file that is not there has none."""
-    if not os.path.isfile(path):
-        return ""
-    with open(path, encoding="utf-8") as file:
-        return file.read()
+    return pathlib.Path(path).read_text("utf-8") if os.path.isfile(path) else ""
 
 
 def write(path, text):
-    """Writes a file, and its folder."""
-    os.makedirs(os.path.dirname(path) or ".", exist_ok=True)
-    with open(path, "w", encoding="utf-8") as file:
-        file.write(text)
+    pathlib.Path(path).parent.mkdir(parents=True, exist_ok=True)
+    pathlib.Path(path).write_text(text, "utf-8")
 
 
 def run(command, folder="."):
     """Runs a command of the shell in a folder. Returns the run, with all that it printed."""
-    pipes = {"stdout": subprocess.PIPE, "stderr": subprocess.STDOUT}
-    return subprocess.run(command, cwd=folder, shell=True, text=True, check=False, **pipes)
+    return subprocess.run(command, cwd=folder, shell=True, text=True, stdout=subprocess.PIPE, stderr=subprocess.STDOUT)
 
 
-def copy_library(folder, *crates):
-    """Copies the library, and more crates, into a folder by `add-to`."""
-    os.makedirs(folder, exist_ok=True)
-    subprocess.run(["./add-to", folder, *crates], check=True, stdout=subprocess.DEVNULL)
+@functools.cache
+def kit():
+    return os.path.dirname(run("rt doc").stdout) + "/rattle"
 
 
 def write_crate(folder, name, needs, texts):
     """Writes the files of a crate into a repository, those that only list modules, and the line of `crates.txt`."""
-    made = {}
-    for root, line in {"specs/Lib.antt": "pub mod {}\n", "proofs/Lib.antt": "mod {}\n", "src/lib.rt": "pub mod {};\n"}.items():
-        found = (re.fullmatch(rf"{os.path.dirname(root)}/(\w+)\.\w+", path) for path in sorted(texts))
-        made[root] = "".join(line.format(it[1]) for it in found if it)
-    root = made.pop("src/lib.rt")
-    made |= {} if "src/main.rt" in texts else {"src/lib.rt": "\n".join(filter(None, ["#![tactic(auto)]\n", root]))}
+    paths = "\n".join(sorted(texts))
+    modules = lambda part, line: "".join(map(line.format, re.findall(rf"^{part}/(\w+)\.\w+$", paths, re.MULTILINE)))
+    made = {"specs/Lib.antt": modules("specs", "pub mod {}\n"), "proofs/Lib.antt": modules("proofs", "mod {}\n")}
+    if "src/main.rt" not in texts:
+        made["src/lib.rt"] = ("#![tactic(auto)]\n\n" + modules("src", "pub mod {};\n")).strip() + "\n"
     for path, text in {**made, **texts}.items():
         write(f"{folder}/crates/{name}/{path}", text)
     kept = [it for it in read(f"{folder}/crates.txt").splitlines() if not it.startswith(f"{name}:")]
@@ -117,14 +102,14 @@ def files(*patterns):
     return [path for path in found if "/out/" not in f"/{path}"]
 
 
+@functools.cache
 def pages():
-    """Returns the pages."""
-    return files("*.md", "bench/*.md", "crates/vecmap/*.md", "docs/*.md")
+    """Returns the pages. Those of `.ci` are none."""
+    return files("**/*.md")
 
 
 def sources(*crates):
-    """Returns the sources of some crates, or of all."""
-    return files(*(f"crates/{crate}/src/**/*.rt" for crate in crates or ["*"]))
+    return files(*(f"crates/{crate}/src/**/*.rt" for crate in crates or "*"))
 
 
 def specs(crate):
@@ -133,8 +118,8 @@ def specs(crate):
 
 
 def dependencies():
-    """Returns the crates that this repository has, in order, each with those that it depends on."""
-    lines = (line.replace(" staticlib", "").split(":") for line in read("crates.txt").splitlines() if ":" in line)
+    """Returns the crates of this repository, in order, each with those that it depends on."""
+    lines = re.findall(r"^(\w+)(?: staticlib)?:(.*)", read("crates.txt"), re.MULTILINE)
     return {name: needs.split() for name, needs in lines}
 
 
@@ -155,39 +140,31 @@ def definitions(path):
 
 
 def crate_of(path):
-    """Returns the crate of a file."""
     return path.split("/")[1]
 
 
 def functions(*paths):
-    """Returns the functions of some sources."""
     return [it for path in paths for it in items(path) if it.kind == "fn"]
 
 
-def opening(path, between=" "):
-    """Returns the comment at the head of a file, with something between its lines."""
+def opening(path):
+    """Returns the comment at the head of a file, on one line."""
     found = re.match(r"(?:(?://!|--).*\n)*", read(path))
-    return between.join(re.sub(r"^(?://!|--) ?", "", line) for line in found[0].splitlines())
+    return " ".join(re.sub(r"^(?://!|--) ?", "", line) for line in found[0].splitlines())
 
 
-def plain_type(text):
-    """Returns a type or a trait without lifetimes and paths."""
-    text = re.sub(r"'\w+ ?", "", text or "").replace("<, ", "<")
-    text = re.sub(r"\b(?:fmt|sealed)::", "", " ".join(text.split()))
-    return re.sub(r"<(?:_|, )*>", "", text).strip()
-
-
-def trait_and_type(head):
-    """Returns the trait, if there is one, and the type of the head of an `impl` or of a trait."""
-    if trait := re.match(r"(?:pub )?trait (\w+)", head):
-        return "", trait[1]
-    return tuple(map(plain_type, IMPL.fullmatch(head).groups()))
+def trait_and_type(item):
+    """Returns the trait, if any, and the type of an item's `impl`, without lifetimes, or the trait that it is in."""
+    head = item.text if item.kind == "impl" else item.impl
+    if not head.startswith("impl"):
+        return "", "".join(re.findall(r"trait (\w+)", head))
+    head = re.sub(r"'\w+(?:, | )?|\b(?:fmt|sealed)::", "", head)
+    return IMPL.fullmatch(re.sub(r"(?<!impl)<(?:_|, )*>", "", head)).groups("")
 
 
 def owner_of(item):
-    """Returns the name of the type or trait of an item, or nothing."""
-    head = item.text if item.kind == "impl" else item.impl
-    return trait_and_type(head)[1].split("<")[0] if head else ""
+    """Returns the name of the type or trait that an item is in, or nothing."""
+    return trait_and_type(item)[1].split("<")[0]
 
 
 def blocks(path):
@@ -199,22 +176,30 @@ def blocks(path):
 
 
 def users_file(block):
-    """Returns the path of a block that is a file of a user's repository, or nothing."""
-    found = USERS_FILE.fullmatch([*block.above, *block.lines, ""][0])
+    """Returns the path of a block that is a file of a user's repository: its first line, or that above it, has it."""
+    found = re.fullmatch(r"(?:(?://|--|#) )?(crates[./]\S+)", [*block.above, *block.lines, ""][0])
     return found[1] if found else ""
 
 
-def is_row(line):
-    """Whether a line of a script is a row: no comment, and none that sets the collections up."""
-    return line[:1] not in ("", "#") and line.split(" ")[0] not in SET_UP
+def calls_of(row):
+    """Returns the names of the calls of a row; those that an entry has begin with `entry:`."""
+    names, *args = re.split("->|[|]", row)[0].split()
+    return [f"entry:{it}" for it in ("entry", *args[1:4])] if names == "entry" else names.split("/")
 
 
+def name_in_rows(function):
+    """Returns the name by which rows call a function."""
+    return "entry:" * ("/entry" in function.path) + function.name
+
+
+@functools.cache
 def headings():
     """Returns the headings of the script, in order. An empty line ends the rows of one."""
     part, found = "", []
-    for block in read(SCRIPT).split("\n\n"):
+    for block in read("crates/vecmap_script/stdin").split("\n\n"):
         part = [part, *re.findall(r"^# =+ (\w+)", block, re.MULTILINE)][-1]
         text, *notes = [*re.findall(r"^# (?!=)(.*)", block, re.MULTILINE), ""]
         lines = [line for line in block.splitlines() if not line.startswith("#")]
-        found += [Heading(part, text, notes[:-1], lines, [*filter(is_row, lines)])] if part and (text or lines) else []
+        rows = [line for line in lines if line and line.split(" ")[0] not in SET_UP]
+        found += [Heading(part, text, notes[:-1], lines, rows)] if part and (text or lines) else []
     return found

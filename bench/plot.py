@@ -18,7 +18,7 @@ CONTENDERS = {
     "linear-map 1.2": "#009e73",
     "indexmap 1.9": "#cc79a7",
 }
-OURS, ORIGINAL, KIT = list(CONTENDERS)[:3]
+OURS, ORIGINAL, KIT, *CRATES = CONTENDERS
 # The rows whose times are drawn, with their titles.
 ROWS = {
     "get hit": "get of a present u64 key",
@@ -26,35 +26,33 @@ ROWS = {
 }
 GREY, FAINT = "#444444", "#dddddd"
 WIDTH, HEIGHT = 900, 700
-CELL = re.compile(r"([\d.]+)(?: [\d.]+)? \[([\d.]+)\.\.([\d.]+)\] ([\d.]+):([\d.]+)")
-
-
-def ratios_of(table):
-    """Returns the numbers of the cells of a table of ratios."""
-    return {
-        row: {size: [float(x) for x in CELL.fullmatch(cell).groups()] for size, cell in cells.items()}
-        for row, cells in table.items()
-    }
 
 
 def read(name):
-    """Returns the rows of the ratios, and those of the nanoseconds of others."""
+    """Returns the numbers of the cells, by contender, row and size.
+
+    Those of a ratio are the median, the ratio of the least times, the least and the greatest ratio, and the nanoseconds
+    of the contender and of the original.
+    """
     tables = {}
     with open(name, encoding="utf-8") as file:
         for line in file:
             head, row, size, cell = line.rstrip("\n").split("\t")
-            tables.setdefault(head, {}).setdefault(row, {})[int(size)] = cell
-    others = {row: {n: float(x) for n, x in cells.items()} for row, cells in tables["nanoseconds"].items()}
-    for row, cells in ratios_of(tables.get(f"{KIT} : vecmap-rs", {})).items():
-        others[f"{row}, {KIT}"] = {n: cell[3] for n, cell in cells.items()}
-    return ratios_of(tables["vecmap : vecmap-rs"]), others
+            numbers = [float(x) for x in re.findall(r"\d+(?:\.\d+)?", cell)]
+            tables.setdefault(head.split(" : ")[0], {}).setdefault(row, {})[int(size)] = numbers
+    return tables
 
 
-def times(ratios, others, row):
+def times(tables, row):
     """Returns the nanoseconds of a row by size, for each contender."""
-    found = {OURS: {n: cell[3] for n, cell in ratios[row].items()}}
-    found[ORIGINAL] = {n: cell[4] for n, cell in ratios[row].items()}
-    return found | {who: others[f"{row}, {who}"] for who in CONTENDERS if f"{row}, {who}" in others}
+    ours, kits, others = tables["vecmap"][row], tables.get(KIT, {}).get(row, {}), tables["nanoseconds"]
+    found = {
+        OURS: {n: cell[4] for n, cell in ours.items()},
+        ORIGINAL: {n: cell[5] for n, cell in ours.items()},
+        KIT: {n: cell[4] for n, cell in kits.items()},
+        **{who: {n: cell[0] for n, cell in others.get(f"{row}, {who}", {}).items()} for who in CRATES},
+    }
+    return {who: cells for who, cells in found.items() if cells}
 
 
 def text(x, y, words, anchor="middle", size=12, colour=GREY):
@@ -127,7 +125,7 @@ def draw_means(box, ratios):
     columns = {size: [row[size] for row in ratios.values() if size in row] for size in sizes}
     mean, least, most = (
         {size: statistics.geometric_mean(cell[at] for cell in column) for size, column in columns.items()}
-        for at in range(3)
+        for at in (0, 2, 3)
     )
     few = ", ".join(str(size) for size in sizes if len(columns[size]) < len(ratios))
     count = min(len(column) for column in columns.values())
@@ -158,11 +156,11 @@ def legend(y):
 
 def main():
     """Draws the picture into the file that the first argument names, from the figures in the second."""
-    ratios, others = read(sys.argv[2])
+    tables = read(sys.argv[2])
     made = legend(26)
     for left, (row, title) in zip((60, 510), ROWS.items()):
-        made += draw_times((left, 75, left + 375, 345), times(ratios, others, row), title)
-    made += draw_means((60, 430, 885, 620), ratios)
+        made += draw_times((left, 75, left + 375, 345), times(tables, row), title)
+    made += draw_means((60, 430, 885, 620), tables["vecmap"])
     words = "Intel Xeon, family 6, model 167, 2.7 GHz. Nanoseconds: the least of the samples, median over the orders."
     made.append(text(60, HEIGHT - 14, words, "start"))
     head = f'<svg xmlns="http://www.w3.org/2000/svg" viewBox="0 0 {WIDTH} {HEIGHT}" font-family="sans-serif">'

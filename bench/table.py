@@ -1,26 +1,20 @@
 #!/usr/bin/env python3
-"""Makes the tables of the benchmark: `table.py RUN..` prints those of some runs, one for each order of the functions.
+"""Makes the tables of the benchmark.
+
+- `table.py RUN..` prints those of some runs, one for each order of the functions.
+- `table.py --rows` prints those of all rows of the figures, `bench/figures.tsv`.
+- `table.py --full RUN..` prints figures: a cell has the median, the ratio of the least times, the least and greatest
+  ratio of a run, and the medians of the least nanoseconds of an operation, of the contender and of the original.
+- `table.py --write FILE` takes the figures from such a file, of two other crates the nanoseconds alone. With or without
+  FILE it writes the tables of docs/SPEED.md.
+- `table.py` compares docs/SPEED.md with the figures: its tables, and the sentence on the spread of the ratios.
 
 A run has the times of this library and of others. A cell has the median of the ratios to the original over the runs.
 It is bold if it is above 1.05, and the ratio of the least times is, too: the least time of the contender in all runs,
-divided by the least of the original. Above a table stands how many medians of its cells are at most 1.05, and how many at
-most 0.9. Its last line has the geometric mean of each size. A row of tight loops is marked
-with a star: at some size, one run's ratio is at least twice another's. If the runs have an earlier state of the
-library, or the kit's indexmap, a last table compares this library with it, in the rows that both have: a cell has the
-median ratio of this library divided by that of the other, and the same of the least times.
-
-`table.py --full RUN..` prints the figures: a cell has the median, the ratio of the least times, the least and the
-greatest ratio of a run, and the medians of the least nanoseconds of an operation, of the contender and of the
-original. `table.py --write FILE` writes such figures to `bench/figures.tsv`, of two other crates the nanoseconds
-alone, and then the page.
-
-`table.py` compares docs/SPEED.md with `bench/figures.tsv`, and `table.py --write` writes its tables:
-
-- The tables of ratios and of two other crates are those of the figures. In the table that compares this library with
-  the kit's indexmap, the last column has the size from which on all cells are above 1.05.
-- The sentences on the number of rows, on the cells and on their spread have the right numbers.
-- Each row with a cell above 1.05 is named, in backticks, in the table of reasons, and each row that is named there has
-  one. Next to the rows is the range of these cells.
+divided by the least of the original. The last line has the geometric mean of each size. A row of tight loops has a
+star: at some size, one run's ratio is at least twice another's. If there are figures of an earlier state of this
+library, or of the kit's indexmap, a last table compares this library with it, in the rows that both have: a cell has
+the median ratio of this library divided by that of the other, and the same of the least times.
 """
 
 import collections
@@ -34,29 +28,51 @@ sys.path.append(os.path.join(os.path.dirname(os.path.abspath(__file__)), "../.ci
 from rattle import WRITES, end, read, table, table_rows, write  # noqa: E402
 
 MOST = 1.05
-FEWER = 0.9
+# A cell counts as faster if its ratio is below this in each order, and as slower if it is above MOST in each.
+LESS = 0.95
 # The least ratio that a table shows.
 LEAST = 0.0001
 FIGURES = "bench/figures.tsv"
 SPEED = "docs/SPEED.md"
 BLOCK = re.compile(r"(?:^\|.*\n)+", re.M)
-MAIN, VECTORS, RUNS = "vecmap : vecmap-rs", "the kit's Vec : Rust's Vec", "vecmap run : vecmap-rs"
-MANY, ADDED = "vecmap, many entries : vecmap-rs", "vecmap, added calls : vecmap-rs"
-# The kit's indexmap, this library at sizes that are timed only to compare both, and that comparison.
-KIT, BESIDE_KIT = "the kit's indexmap : vecmap-rs", "vecmap, other sizes : vecmap-rs"
-CROSSING = "vecmap : the kit's indexmap"
+# This library, the kit's indexmap, and this library at sizes that are timed only to compare both.
+OURS, KIT, BESIDE_KIT = "vecmap", "the kit's indexmap", "vecmap, other sizes"
 OTHERS = "nanoseconds"
-REASONS = "Rows"
-HEADS = [MAIN, VECTORS, RUNS, OTHERS, MANY, ADDED, KIT, BESIDE_KIT]
 # What each contender is compared with, if it is not the original.
 COMPARED_WITH = {"the kit's Vec": "Rust's Vec"}
 # What this library is compared with besides the original, with the names of this library in these rows.
-BESIDES = {"before": ("vecmap", "vecmap, many entries"), "the kit's indexmap": ("vecmap", "vecmap, other sizes")}
-# The rows of two other crates that are kept, and those of lookups.
+BESIDES = {"before": (OURS, "vecmap, many entries"), KIT: (OURS, BESIDE_KIT)}
+# The rows of two other crates that are kept.
 ROWS_OF_OTHERS = ("get hit", "insert new", "String get_str hit")
-LOOKUPS = ("get hit", "String get_str hit")
 CRATES = ("linear-map 1.2", "indexmap 1.9")
 SIZES_OF_OTHERS = [2, 8, 32, 128, 512]
+# The kinds of rows, with what the names of their rows begin with. The means of the last three are of little use.
+KINDS = {
+    "lookups": r"(?!document).*\bget|set contains",
+    "insertions, entries": r"(?!document|.*remove|.*swap_).*(insert|entry|count )",
+    "removals": r".*(remove|swap_)",
+    "`retain`, `drain`, `split_off`": r"(set )?(retain|drain|split_off)",
+    "from vectors, clones": r".*From<Vec>|from_iter|extend|append|clone",
+    "iteration": r"(set )?iter|keys|values",
+    "sorts, binary searches": r"(set )?(sort|binary|partition)",
+    "equality": r"(set )?[!=]=",
+    "set operations": r"set (is_|diff|inter|union|symm|[&\\^-])",
+    "documents, commands": r"document|1000|run",
+}
+# The rows whose nanoseconds the page has.
+TIMED = {
+    "get hit": "`get`, present",
+    "get miss": "`get`, absent",
+    "insert new": "`insert` of a new key",
+    "remove+insert": "`remove` and `insert`",
+    "String get_str hit": "`get_str`, present",
+}
+# The rows in which the page compares kinds of keys with the kit's indexmap.
+CROSSINGS = {
+    "numbers": ["get hit", "get miss", "insert new", ""],
+    "texts": ["String get_str hit", "String get_str miss", "String insert new", ""],
+    "enums": ["header get hit", "", "header insert new", "header remove+insert"],
+}
 # The ratios of a row at one size, and the nanoseconds of an operation. Of two other crates, those are the first number.
 Cell = collections.namedtuple("Cell", "median leasts least greatest ours theirs", defaults=[0] * 5)
 
@@ -89,8 +105,8 @@ def full(cell):
 
 
 def mean(cells):
-    """Returns the geometric mean of some ratios as a text."""
-    return f"{statistics.geometric_mean(cells):.2f}"
+    """Returns the geometric mean of some ratios as a text, which is empty if there are none."""
+    return f"{statistics.geometric_mean(cells):.2f}" if cells else ""
 
 
 def sizes_of(rows):
@@ -108,23 +124,13 @@ def lines_of(rows, shown):
     return [[row, *(shown(cells[n]) if n in cells else "" for n in sizes_of(rows))] for row, cells in rows.items()]
 
 
-def ratio_table(head, rows, has_mean=True):
+def ratio_table(head, rows):
     """Returns a table of medians, with the geometric mean of each column."""
     lines = [[head, *sizes_of(rows)], *lines_of(rows, short)]
     for line, cells in zip(lines[1:], rows.values()):
         line[0] += " \\*" * any(cell.greatest >= 2 * cell.least for cell in cells.values())
     columns = ([cells[n].median for cells in rows.values() if n in cells] for n in sizes_of(rows))
-    return table([*lines, ["geometric mean", *map(mean, columns)]] if has_mean else lines)
-
-
-def counts(rows):
-    """Returns the sentence on the cells of a table."""
-    cells = cells_of(rows)
-    few, fewer = (sum(cell.median <= most for cell in cells) for most in (MOST, FEWER))
-    return f"Of {len(cells)} cells, {few} have a median of at most {MOST}, and {fewer} of at most {FEWER}."
-
-
-# The tables of runs.
+    return table([*lines, ["geometric mean", *map(mean, columns)]])
 
 
 def read_run(name):
@@ -153,34 +159,43 @@ def tables_of(runs):
     return tables
 
 
+def read_figures():
+    """Returns the cells of the figures, by contender, row and size."""
+    tables = collections.defaultdict(dict)
+    for head, row, size, cell in (line.split("\t") for line in read(FIGURES).splitlines()):
+        numbers = map(float, re.findall(r"\d+(?:\.\d+)?", cell))
+        tables[head.split(" : ")[0]].setdefault(row, {})[int(size)] = Cell(*numbers)
+    return tables
+
+
+def compared(tables, other):
+    """Returns the rows that this library and another contender have, with the ratios of both."""
+    made = collections.defaultdict(dict)
+    for row, cells in (it for who in BESIDES[other] for it in tables.get(who, {}).items()):
+        for n in cells.keys() & tables[other].get(row, {}).keys():
+            beside = tables[other][row][n]
+            made[row][n] = Cell(cells[n].median / beside.median, cells[n].leasts / beside.leasts)
+    return made
+
+
 def comparison(tables, other):
     """Returns what compares this library with another contender, in the rows that both have."""
-    made, disjoint = {}, 0
-    own = (it for who in BESIDES[other] for it in tables.get(who, {}).items())
-    for row, n, cell in ((row, n, cell) for row, cells in own for n, cell in cells.items()):
-        if beside := tables[other].get(row, {}).get(n):
-            made.setdefault(row, {})[n] = Cell(cell.median / beside.median, cell.leasts / beside.leasts)
-            disjoint += cell.least > beside.greatest
+    made = compared(tables, other)
     cells, both = cells_of(made), lambda cell: bold(f"{cell.median:.2f} {cell.leasts:.2f}", cell)
     faster, slower = sum(max(cell[:2]) < 1 / MOST for cell in cells), sum(map(is_above, cells))
     columns = ([cells[n] for cells in made.values() if n in cells] for n in sizes_of(made))
     means = [f"{mean([it.median for it in column])} {mean([it.leasts for it in column])}" for column in columns]
     lines = [[f"vecmap : {other}", *sizes_of(made)], *lines_of(made, both), ["geometric mean", *means]]
-    return (
-        f"Of {len(cells)} cells, {faster} take at least 5 % less than {other} by both ratios, and {slower} more.\n"
-        f"In {disjoint} cells, the least ratio is above the greatest of {other}.\n\n{table(lines)}"
-    )
+    said = f"Of {len(cells)} cells, {faster} take at least 5 % less than {other} by both ratios, and {slower} more."
+    return f"{said}\n\n{table(lines)}"
 
 
-def print_runs(names, is_full):
-    """Prints the tables of the named runs."""
-    tables = tables_of([read_run(name) for name in names])
+def print_tables(tables, is_full):
+    """Prints some tables."""
     for who, rows in tables.items():
         head = f"{who} : {COMPARED_WITH.get(who, 'vecmap-rs')}"
-        if is_full:
-            print("\n" + table([[head, *sizes_of(rows)], *lines_of(rows, full)]), end="")
-        else:
-            print(f"\n{counts(rows)}\n\n{ratio_table(head, rows)}", end="")
+        whole = table([[head, *sizes_of(rows)], *lines_of(rows, full)]) if is_full else ratio_table(head, rows)
+        print("\n" + whole, end="")
     for other in [] if is_full else filter(tables.__contains__, BESIDES):
         print("\n" + comparison(tables, other), end="")
 
@@ -190,101 +205,58 @@ def print_runs(names, is_full):
 
 def take(path):
     """Makes the tables of a file the figures. Of two other crates, it takes the nanoseconds of some rows."""
-    made = collections.defaultdict(list)
+    made, figures = collections.defaultdict(list), collections.defaultdict(list)
     for block in BLOCK.findall(read(path)):
         [head, *sizes], _, *rows = table_rows(block)
-        made[head] = [(head, row, n, cell) for row, *cells in rows for n, cell in zip(sizes, cells) if cell]
+        made[head] = [[head, row, n, cell] for row, *cells in rows for n, cell in zip(sizes, cells) if cell]
     for crate in CRATES:
         for _, row, n, cell in made[f"{crate.split()[0]} : vecmap-rs"]:
             if row in ROWS_OF_OTHERS and int(n) in SIZES_OF_OTHERS:
-                made[OTHERS].append((OTHERS, f"{row}, {crate}", n, re.search(r" ([\d.]+):", cell)[1]))
-    kept = (line.split("\t") for line in read(FIGURES).splitlines())
-    lines = [*(it for it in kept if not made[it[0]]), *(it for head in HEADS for it in made[head])]
-    lines.sort(key=lambda it: HEADS.index(it[0]))
+                made[OTHERS].append([OTHERS, f"{row}, {crate}", n, re.search(r" ([\d.]+):", cell)[1]])
+    for line in read(FIGURES).splitlines():
+        figures[line.split("\t")[0]].append(line.split("\t"))
+    lines = [line for head, kept in figures.items() for line in made[head] or kept]
     write(FIGURES, "".join("\t".join(line) + "\n" for line in lines))
 
 
-def read_figures():
-    """Returns the tables of the figures: of each its rows by name, and of a row the cells by size."""
-    tables = {head: {} for head in HEADS}
-    for head, row, size, cell in (line.split("\t") for line in read(FIGURES).splitlines()):
-        tables[head].setdefault(row, {})[int(size)] = Cell(*map(float, re.findall(r"\d+(?:\.\d+)?", cell)))
-    return tables
+def kind_table(rows):
+    """Returns the table of the means of each kind, and of how many cells are slower or faster in each order."""
+    sizes = sizes_of(rows)
+    kinds = {kind: [rows[row] for row in rows if re.match(pattern, row)] for kind, pattern in KINDS.items()}
+    kinds |= {"all": [*rows.values()], "all but the last three": [it for kind in [*KINDS][:-3] for it in kinds[kind]]}
+    lines = [["kind", *sizes, "slower", "faster"]]
+    for kind, found in kinds.items():
+        means = (mean([cells[n].median for cells in found if n in cells]) for n in sizes)
+        cells = [cell for row in found for cell in row.values()]
+        slower, faster = sum(it.least > MOST for it in cells), sum(it.greatest < LESS for it in cells)
+        lines.append([kind, *means, f"{slower}/{len(cells)}", f"{faster}/{len(cells)}"])
+    return table(lines)
 
 
-def slow_cells(cells):
-    """Returns the cells of a row that are above MOST."""
-    return list(filter(is_above, cells.values()))
+def time_table(tables):
+    """Returns the table of nanoseconds: of this library, of the original, and of the kit's indexmap if it is timed."""
+    lines = [["nanoseconds", *SIZES_OF_OTHERS]]
+    for row, words in TIMED.items():
+        kit = tables[KIT].get(row, {})
+        times = ([*tables[OURS][row][n][-2:], *(it.ours for it in [kit.get(n)] if it)] for n in SIZES_OF_OTHERS)
+        lines.append([words, *(":".join(f"{it:.{int(it < 100)}f}" for it in found) for found in times)])
+    return table(lines)
 
 
 def crossing_table(tables):
-    """Returns the table of the ratios to the kit's indexmap, with the size from which on all are above MOST."""
-    lines, sizes = [[CROSSING, *sizes_of(tables[KIT]), "slower from"]], sizes_of(tables[KIT])
-    for row, cells in tables[KIT].items():
-        ours, found, slower = tables[MAIN].get(row, {}) | tables[BESIDE_KIT].get(row, {}), {}, ""
-        for n in sorted(ours.keys() & cells.keys()):
-            found[n] = Cell(ours[n].median / cells[n].median, ours[n].leasts / cells[n].leasts)
-            slower = (slower or n) if is_above(found[n]) else ""
-        lines.append([row, *(short(found[n]) if n in found else "" for n in sizes), slower])
-    return table(lines)
+    """Returns the table of the sizes from which on this library is slower than the kit's indexmap at each size."""
+    first, ratios = {"": ""}, compared(tables, KIT)
+    for row, n in ((row, n) for row in ratios for n in sorted(ratios[row])):
+        first[row] = (first.get(row) or n) if is_above(ratios[row][n]) else ""
+    lines = ([keys, *(first[row] for row in rows)] for keys, rows in CROSSINGS.items())
+    return table([["keys", "`get`, present", "`get`, absent", "`insert`", "`remove` and `insert`"], *lines])
 
 
-def lookup_table(ours, others):
-    """Returns the table of the nanoseconds of lookups by this library and by two other crates."""
-    lines = [["", *SIZES_OF_OTHERS]]
-    for row in LOOKUPS:
-        times = {"this library": [ours[row][n].ours for n in SIZES_OF_OTHERS]}
-        times |= {crate: [others[f"{row}, {crate}"][n].median for n in SIZES_OF_OTHERS] for crate in CRATES}
-        lines += [[f"{row}, {name}", *(f"{it:.{int(it < 100)}f}" for it in found)] for name, found in times.items()]
-    return table(lines)
-
-
-def reason_table(block, rows):
-    """Returns the table of reasons, with the rows that are slow, and the range of their cells above MOST."""
-    head, _, *lines = table_rows(block)
-    made = [head]
-    for names, _, reason in lines:
-        slow = [name for name in re.findall(r"`([^`]+)`", names) if slow_cells(rows.get(name, {}))]
-        ratios = [f"{cell.median:.1f}" for name in slow for cell in slow_cells(rows[name])]
-        ends = dict.fromkeys([min(ratios, key=float), max(ratios, key=float)]) if ratios else []
-        made += [[", ".join(f"`{name}`" for name in slow), " to ".join(ends), reason]] if slow else []
-    return table(made)
-
-
-def number_faults(text, rows):
-    """Says which sentence on the number of rows, on the cells or on their spread is missing."""
-    spreads = sorted(cell.greatest / cell.least for cell in cells_of(rows))
-    half, most = (f"{spreads[len(spreads) * it // 10]:.2f}" for it in (5, 9))
-    for sentence in (
-        counts(rows),
-        f"is at most {half} times the least, in nine of ten at most {most} times.",
-        f"There are {len(rows)} rows, {sum(2 in it for it in rows.values())} with 2,",
-    ):
-        if sentence not in " ".join(text.split()):
-            yield f"{SPEED} lacks: {sentence}"
-
-
-def page_of(text, tables, rows):
+def page_of(text, tables):
     """Returns the page with the tables of the figures."""
-
-    def made(block):
-        head = block[0].split("|")[1].strip()
-        if head in (MAIN, MANY, ADDED, VECTORS, RUNS):
-            # Few rows of many kinds have no mean.
-            return ratio_table(head, tables[head], head not in (MANY, ADDED))
-        if head == CROSSING:
-            return crossing_table(tables)
-        if head == REASONS:
-            return reason_table(block[0], rows)
-        return block[0] if head else lookup_table(tables[MAIN], tables[OTHERS])
-
-    return BLOCK.sub(made, text)
-
-
-def all_rows(tables):
-    """Returns the rows of the tables of ratios but for runs, each with its cells of all sizes."""
-    rows = tables[MAIN] | tables[VECTORS] | tables[ADDED]
-    return rows | {row: rows[row] | cells for row, cells in tables[MANY].items()}
+    made = (kind_table(tables[OURS]), time_table(tables), crossing_table(tables))
+    heads = {it.split("|")[1]: it for it in made}
+    return BLOCK.sub(lambda block: heads.get(block[0].split("|")[1], block[0]), text)
 
 
 def check():
@@ -292,20 +264,27 @@ def check():
     for path in sys.argv[2:]:
         take(path)
     tables, text = read_figures(), read(SPEED)
-    rows = all_rows(tables)
-    slow = [row for row, cells in rows.items() if slow_cells(cells)]
-    named = re.findall(r"`([^`]+)`", text.split(f"| {REASONS} |")[1].split("\n\n")[0])
-    faults = [f"speed: `{row}` has a cell above {MOST} and no reason" for row in slow if row not in named]
-    made = page_of(text, tables, rows)
+    rows, made = tables[OURS], page_of(text, tables)
     if WRITES:
         write(SPEED, made)
-    faults += [*number_faults(text, tables[MAIN])]
-    faults += [f"{SPEED}: its tables are not those of {FIGURES} (`bench/table.py --write`)"] if made != read(SPEED) else []
-    return faults, f"speed: {len(slow)} rows with a cell above {MOST}"
+    kinds = {row: sum(bool(re.match(it, row)) for it in KINDS.values()) for row in rows}
+    faults = [f"speed: `{row}` is of {number} kinds, and not of one" for row, number in kinds.items() if number != 1]
+    spreads = sorted(cell.greatest / cell.least for cell in cells_of(rows))
+    half, most = (f"{spreads[len(spreads) * it // 10]:.2f}" for it in (5, 9))
+    sentence = f"is at most {half} times the least, in nine of ten at most {most} times."
+    faults += [] if sentence in " ".join(text.split()) else [f"{SPEED} lacks: {sentence}"]
+    faults += [f"{SPEED}: its tables are not those of the figures (`bench/table.py --write`)"] * (made != read(SPEED))
+    return faults, f"speed: {len(rows)} rows of {len(KINDS)} kinds"
 
 
 if sys.argv[1:2] in ([], ["--write"]):
     sys.argv[2:] = map(os.path.abspath, sys.argv[2:])
     end(check)
-is_full = sys.argv[1] == "--full"
-print_runs(sys.argv[2:] if is_full else sys.argv[1:], is_full)
+if sys.argv[1] == "--rows":
+    os.chdir(os.path.join(os.path.dirname(os.path.abspath(__file__)), ".."))
+    figures = read_figures()
+    del figures[OTHERS]
+    print_tables(figures, False)
+else:
+    is_full = sys.argv[1] == "--full"
+    print_tables(tables_of([read_run(name) for name in sys.argv[1 + is_full :]]), is_full)

@@ -1,16 +1,18 @@
 """Writes contracts and definitions as HTML, in which each name is a link, and keeps them as blocks.
 
-A doc comment has `<div class="contract">NUMBER</div>` in place of a block, and `site.py` puts the HTML there. A link has
+A doc comment has `<div class="contract">NUMBER</div>` in place of a block, where `site.py` puts the HTML. A link has
 the path of its target, such as `@vecmap_base::specs::Pairs::put`, which `site.py` makes relative.
+
+Above a clause stands what it says: the sentence of its definition with the arguments put in, if that speaks of all.
 """
 
-import dataclasses
 import html
+import itertools
 import re
+import textwrap
 
 from rattle import NAME
 from laws_for import braced
-from reference import words
 from reference.names import definition, names_in, path_of, rows
 
 # What begins a line: a clause with its label, a field, or a member. No name there is a link.
@@ -18,27 +20,18 @@ OPENING = re.compile(r" *(?:(requires\*?|ensures\*?|ghost|pub) (?:(\w+)(?= \{| :
 TOKEN = re.compile(
     r"(?P<comment>//.*|--.*)|(?P<sign>[^\w\s(){}\[\].,;:'\"]+)|(?<![\w.'])[A-Za-z_][\w'-]*(?:\.[A-Za-z_][\w']*)*"
 )
-# The names that a text binds, after `λ` and before `:`, which lead nowhere. Then those of fields, on a left side, after `let`.
+# The names that a text binds, after `λ` and before `:`, which lead nowhere. Then those of fields.
 BOUND = re.compile(r"λ ([\w' ]+)\.(?= |$)|[({] ?([\w' ]+) :")
-GIVEN = re.compile(r"^([^=:→]*?) =(?= |$)|[{;] ?([\w']+) =(?= )|^ *(?:pub )?([\w' -]+) :|\blet ([\w' ]+) |⟦<([^>]*)>⟧", re.M)
+GIVEN = re.compile(r"^([^=:→]*?) =(?= |$)|[{;] ?([\w']+) =(?= )|^ *(?:pub )?([\w' -]+) :", re.MULTILINE)
 CLAUSE = re.compile(r"^ *(?:requires|ensures)\*? (?:\w+ )?\{", re.MULTILINE)
-# The clauses that follow from others: from this comment up to the next one.
-FOLLOWS = re.compile(r"^ *// ((?:What follows|Follows).*)\n((?:(?! *//).*\n?)*)", re.MULTILINE)
-OWN_WORDS = "_ Self self result where abbrev pub data record module unfoldable requires ensures ghost".split()
+# The comment above the clauses that follow from others.
+FOLLOWS = "What follows for lookups, lengths and indices."
+OWN_WORDS = "_ Self self result where abbrev pub data record module".split()
+# A word of a formula, or what stands in parentheses.
+WORD = re.compile(r"\((?:[^()]|\((?:[^()]|\([^()]*\))*\))*\)(?:\.\w+)*|[^\s()]+")
+# What is said of a result before a clause that holds only if it has this form.
+RESULT = re.compile(r"(OnOk|IfOk|OnErr|IfErr|OnSome|IfSome) result (\(.*\))")
 FAULTS, BLOCKS = [], []
-
-
-@dataclasses.dataclass(eq=False)
-class Block:
-    """A contract, or a definition with its own path: its HTML, the paths that it names, and where the site has it first."""
-
-    path: str
-    line: int
-    title: str
-    own: str = ""
-    html: str = ""
-    names: set = dataclasses.field(default_factory=set)
-    place: str = ""
 
 
 def bound_in(text, form):
@@ -47,20 +40,86 @@ def bound_in(text, form):
     return {it for part in found for it in re.findall(r"[\w'-]+", " ".join(part))}
 
 
-class Writer:
-    """Writes the text of a block, in which some names are given by the source."""
+def bare(text):
+    """Returns a formula without parentheses around the whole."""
+    return text[1:-1] if len(WORD.findall(text)) == 1 and text[:1] + text[-1:] == "()" else text
 
-    def __init__(self, block, text, given):
-        self.block, self.names, self.bound = block, names_in(block.path), bound_in(text, BOUND)
-        self.known = {*given, *self.bound, *bound_in(text, GIVEN), *OWN_WORDS}
 
-    def fault(self, why):
-        """Keeps a fault of the block."""
-        FAULTS.append(f"{self.block.path}:{self.block.line}: {self.block.title}: {why}")
+def split(formula, sign):
+    """Returns the parts of a formula between the places of a sign that are in no parentheses."""
+    parts = itertools.groupby(WORD.findall(formula), sign.__eq__)
+    return [bare(" ".join(words)) for is_sign, words in parts if not is_sign]
 
-    def path(self, name):
+
+def parameters(name, text):
+    """Returns the names of the explicit parameters of a definition, or the patterns that it has in their place."""
+    heads = " ".join(it for it in text.splitlines() if re.match(r" *(?:module|pub record) ", it))
+    left = re.search(rf"^ *{name} (.*?) =(?: |$)", text, re.MULTILINE)
+    found = [it for group in re.findall(r"\(([\w' ]+) :", heads) for it in group.split()]
+    return found + WORD.findall(re.sub(r"\{[^}]*\}", "", left[1] if left else ""))
+
+
+def sentence(formula, about):
+    """Returns the sentence of a definition with the arguments of a formula in it, or nothing."""
+    name, *arguments = WORD.findall(formula)
+    told, text = about(name)
+    names = parameters(name, text) if told else []
+    is_phrase = re.match("`|that |What |[Tt]he same |[Ww]here |The capacity after ", told)
+    if not told or is_phrase or len(names) != len(arguments):
+        return ""
+    letters = (it for it in re.findall("`([b-hj-z])`", told) if it not in names)
+    given = {it if re.fullmatch(r"[\w']+", it) else next(letters, it): bare(of) for it, of in zip(names, arguments)}
+    if query := re.fullmatch(r"(?:Q\.equivalent|has_text) ([\w.]+)", given.get("test", "")):
+        told = told.replace("passes the test", f"matches `{query[1]}`")
+    within = lambda it: re.sub(r"[a-z]\w*", lambda word: given.get(word[0], word[0]), it[0])
+    put = lambda it: within(it) if it[0][0] == "`" else f"`{given[it[0]]}`" if it[0] in given else it[0]
+    said = re.sub(r"`[^`]*`|(?<![\w'])[b-hj-z](?![\w'])", put, told).rstrip(".")
+    lists = [it for it in arguments if re.fullmatch(r"[\w.]+\.(?:entries|elements)", it)]
+    said += f" in `{lists[0]}`" if len(lists) == 1 and not {lists[0], ","} & {*re.split("(,)|`", said)} else ""
+    unsaid = [it for it in map(bare, arguments) if re.search("[ (]", it) and "." not in it and it not in said]
+    is_said = not unsaid and (not lists or any(it in said for it in lists))
+    return said if is_said and not re.search(r"`(?:true|false)` is true|λ|\b[B-Z]\b", said) else ""
+
+
+def said(formula, about):
+    """Returns what a formula says in words, or nothing. `about` returns the sentence and the text of a definition."""
+    lower = lambda text: text[:1].lower() + text[1:]
+    if found := RESULT.fullmatch(formula):
+        name, inner = re.fullmatch(r"(?:λ (\w+)\. )?(.*)", bare(found[2])).groups()
+        form = f"`{found[1][2:]}({name})`" if name else f"`{found[1][2:]}`"
+        rest = said(inner, about)
+        return rest and ("If the result is " if "Some" in form else "On ") + f"{form}, {lower(rest)}"
+    *premises, last = split(formula, "→")
+    if premises:
+        *conditions, last = parts = [said(it, about) for it in [*(it for it in premises if " : " not in it), last]]
+        is_said = all(parts) and len({*parts}) == len(parts) and ". " not in "".join(conditions)
+        premise = "If {}, then ".format(" and ".join(map(lower, conditions))) if conditions else ""
+        return premise + (lower(last) if premise else last) if is_said else ""
+    left, *right = split(formula, "≡")
+    if right:
+        value = sentence(right[0], about)
+        name = "The result" if left == "result" else f"`{left}`"
+        return f"{name} is {lower(value)}" if value.startswith("The ") and "λ" not in name else ""
+    return "The call returns `Ok`" if formula == "IsOk result" else sentence(formula, about)
+
+
+class Block:
+    """A contract, or a definition with its own path: its HTML, the paths that it names, and its place on the site."""
+
+    def __init__(self, path, line, title, text, given="", own=""):
+        self.path, self.title, self.own, self.where = path, title, own, f"{path}:{line}: {title}"
+        self.place, self.names, self.mark = "", set(), f'\n<div class="contract">{len(BLOCKS)}</div>\n'
+        self.leads, self.bound = names_in(path), bound_in(text, BOUND)
+        self.known = {*NAME.findall(given), *self.bound, *bound_in(text, GIVEN), *OWN_WORDS}
+        first, _, folded = text.partition(f"// {FOLLOWS}\n")
+        self.html = self.write(first)
+        if folded:
+            self.html += f'<details class="follows"><summary>{FOLLOWS}</summary>{self.write(folded)}</details>'
+        BLOCKS.append(self)
+
+    def target(self, name):
         """Returns where a name leads. One that the text binds leads nowhere."""
-        found = "" if name in self.bound else self.names.get(name, "")
+        found = "" if name in self.bound else self.leads.get(name, "")
         return path_of(*found) if isinstance(found, tuple) else found
 
     def name(self, whole):
@@ -68,14 +127,14 @@ class Writer:
         parts = whole.split(".")
         ends = range(len(parts), 1, -1) if re.fullmatch("[A-Z]|Self", parts[0]) else ()
         keys = {whole: whole, **{".".join(parts[:end]): f".{parts[end - 1]}" for end in ends}, parts[0]: parts[0]}
-        word = next((it for it, key in keys.items() if key in self.names), "")
-        path = self.path(keys.get(word, ""))
+        word = next((it for it, key in keys.items() if key in self.leads), "")
+        path = self.target(keys.get(word, ""))
         is_letter = not ends and re.fullmatch(r"[A-Za-z][\d'₀-₉]*", parts[0])
         if not path and not word and parts[0] not in ({"Self"} if ends else self.known) and not is_letter:
-            self.fault(f"`{whole}` leads nowhere")
-        if not path or path == self.block.own:
+            FAULTS.append(f"{self.where}: `{whole}` leads nowhere")
+        if not path or path == self.own:
             return whole
-        self.block.names.add(path)
+        self.names.add(path)
         told = definition(path)[0] or rows().get(path.removeprefix("contracts#"), "")
         return f'<a href="@{path}" title="{html.escape(told)}">{word}</a>{whole[len(word):]}'
 
@@ -84,7 +143,7 @@ class Writer:
         if not found["comment"] and not found["sign"]:
             return self.name(found[0])
         if found["sign"] and found[0].strip("◌") not in {*rows(), ""}:
-            self.fault(f"contracts.md has no `{found[0]}`")
+            FAULTS.append(f"{self.where}: contracts.md has no `{found[0]}`")
         return html.escape(found[0], quote=False)
 
     def line(self, line):
@@ -100,29 +159,11 @@ class Writer:
 
     def write(self, text):
         """Returns a text in HTML. Above a clause is what the sentence of its definition says of it."""
-        text = text.strip("\n")
-        lines = text.splitlines()
-        margin = min((len(it) - len(it.lstrip()) for it in lines if it.strip()), default=0)
-        made = [self.line(it[margin:]) for it in lines]
+        text = textwrap.dedent(text).strip("\n")
+        made = [self.line(it) for it in text.splitlines()]
         for clause in CLAUSE.finditer(text):
-            said = words.said(braced(text, clause.end()), lambda it: definition(self.path(it)))
-            said = re.sub("`(.*?)`", r"<code>\1</code>", html.escape(said[:1].upper() + said[1:], quote=False))
+            words = said(braced(text, clause.end()), lambda it: definition(self.target(it)))
+            words = re.sub("`(.*?)`", r"<code>\1</code>", html.escape(words[:1].upper() + words[1:], quote=False))
             number = text.count("\n", 0, clause.start())
-            made[number] = f'<span class="said">{said}.</span>\n' * bool(said) + made[number]
+            made[number] = f'<span class="said">{words}.</span>\n' * bool(words) + made[number]
         return f"<pre>{chr(10).join(made)}</pre>" * bool(text)
-
-    def folded(self, text):
-        """Returns a text in HTML, in which the clauses that follow from others are folded."""
-        made, last = "", 0
-        for found in FOLLOWS.finditer(text):
-            folded = f'<details class="follows"><summary>{found[1]}</summary>{self.write(found[2])}</details>'
-            made, last = made + self.write(text[last : found.start()]) + folded, found.end()
-        return made + self.write(text[last:])
-
-
-def block(path, line, title, text, given="", own=""):
-    """Returns what stands for a contract or a definition in a doc comment."""
-    made = Block(path, line, title, own)
-    made.html = Writer(made, text, NAME.findall(given)).folded(text)
-    BLOCKS.append(made)
-    return f'\n<div class="contract">{len(BLOCKS) - 1}</div>\n'

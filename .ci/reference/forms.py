@@ -4,23 +4,25 @@ A form has as many lines as its source, so that the numbers of lines stay. Contr
 `loop {}`, and each definition of `specs/` is a constant with its comment and its text.
 """
 
-import functools
 import os
 import re
 
 from rattle import LAWS, LIBRARIES, closing, crate_of, definitions, items, opening, owner_of, read, table_rows
-from reference.contracts import block
-from reference.names import OF_KIT, module_of, section
+from reference.contracts import Block
+from reference.names import OF_KIT, module_of
 
 GHOST = re.compile(r"(?:^ +//(?!/).*\n)*^ +ghost (?!use)\w+(?: = |: )\{", re.MULTILINE)
-# What begins the contract of a function: a clause, with comments above it.
-CONTRACT = re.compile(r"(?:^ *//.*\n|^\n)*^ *(?:requires|ensures)\b", re.MULTILINE)
+# Where the contract of a function begins: at a clause, with comments above it.
+CONTRACT = re.compile(r"^(?=(?: *//.*\n|\n)* *(?:requires|ensures)\b)", re.MULTILINE)
 MODULES = re.compile(r"(?:^(?:pub )?mod \w+;\n)+", re.MULTILINE)
 PASSED_ON = re.compile(r"^pub use Rattle\.(\w+)\.specs\.(\w+)(?: as (\w+))?$", re.MULTILINE)
+# Words and signs by which a search finds calls, too.
+ALSO = {"VecMap::new": "HashMap IndexMap", "VecSet::new": "HashSet IndexSet", "VecSet::union": "|"}
+# The definitions of std, by their paths, as constants.
+CONSTANTS = {}
 
 
 def blank(text):
-    """Returns as many empty lines as a text has."""
     return "\n" * text.count("\n")
 
 
@@ -30,45 +32,35 @@ def doc(text):
     return f'#[doc = "{words}"] ' if text else ""
 
 
-def title(item):
-    """Returns how pages name an item: an impl by its head, a function by its type, and a law by its module."""
-    if item.kind == "impl":
-        return re.sub(r"^impl(?:<.*?>)? (?=[A-Z])| where.*", "", item.text)
-    home = item.path.split("/")[3].removesuffix(".rt") if crate_of(item.path) == LAWS else ""
-    return "::".join(filter(None, [home, owner_of(item), item.name]))
-
-
-@functools.cache
-def purposes(name):
-    """Returns the words by which a search finds a call: what a user wants to do, as in the table `Which call`."""
-    rows = table_rows(section("Which call"))[2:]
-    return {word for told, written, *_ in rows if f"`{name}`" in written for word in re.findall(r"[a-z]{5,}", told)}
-
-
 def aliases(item, contract):
-    """Returns attributes by which a search finds a call: its purposes, and the names of its goals."""
-    goals = re.findall(r"^ *requires (?:(\w+) )?\{", contract, re.MULTILINE)
-    goals = {f"{item.name}-requires{it}" for goal in goals for it in ("", f"-clause-{goal}" * bool(goal))}
-    is_call = item.is_public and crate_of(item.path) in LIBRARIES
-    found = purposes(item.name) - {item.name} | goals if is_call else ()
-    return "".join(f'#[doc(alias = "{it}")] ' for it in sorted(found))
+    """Returns attributes by which a search finds a call of a library: words of its purposes, and its goals."""
+    if not (item.is_public and crate_of(item.path) in LIBRARIES):
+        return ""
+    which = table_rows(read("crates/vecmap/CALLING.md").partition("\n## Which call\n")[2].partition("\n## ")[0])
+    found = {word for told, calls, *_ in which if f"`{item.name}`" in calls for word in re.findall(r"[a-z]{5,}", told)}
+    found |= {*ALSO.get(f"{owner_of(item)}::{item.name}", "").split()}
+    for label in re.findall(r"^ *requires (?:(\w+) )?\{", contract, re.MULTILINE):
+        found |= {f"{item.name}-requires", f"{item.name}-requires" + f"-clause-{label}" * bool(label)}
+    return "".join(f'#[doc(alias = "{it}")] ' for it in sorted(found - {item.name}))
 
 
 def contract_of(item, text, given):
-    """Returns an attribute with the place of a contract, which may be empty."""
+    """Returns an attribute with a contract, which may be empty. Pages name it by its type or its module."""
     heading = "\n# Contract\n" * bool(text.strip())
-    return doc(heading + block(item.path, item.line, title(item), text, given))
+    title = re.sub(r"^impl(?:<.*?>)? (?=[A-Z])| where.*", "", item.text)
+    if item.kind != "impl":
+        home = item.path.split("/")[3].removesuffix(".rt") if crate_of(item.path) == LAWS else ""
+        title = "::".join(filter(None, [home, owner_of(item), item.name]))
+    return doc(heading + Block(item.path, item.line, title, text, given).mark)
 
 
 def function_form(item):
-    """Returns the lines of a function without its contract and its body. Without a comment it has no contract, either."""
+    """Returns the lines of a function without its contract and body. Without a comment it has no contract, either."""
     head = re.sub(r"\s*(?:\{\}|;)\Z", "", item.head())
-    found = CONTRACT.search(head)
-    signature, contract = (head[: found.start()], head[found.start() :]) if found else (head, "")
+    signature, contract = [*CONTRACT.split(head, maxsplit=1), ""][:2]
     is_shown = item.is_call() and (item.doc() or contract and " for " in item.impl)
     about = aliases(item, contract) + contract_of(item, contract, signature) if is_shown else ""
-    body = ";" if item.text.endswith(";") else "{ loop {} }"
-    made = f"{about}{re.sub('//.*', '', signature).strip()} {body}"
+    made = f"{about}{re.sub('//.*', '', signature).strip()} {';' if item.text.endswith(';') else '{ loop {} }'}"
     return made + blank(item.text).removeprefix(blank(made))
 
 
@@ -83,11 +75,9 @@ def block_form(item):
 
 
 def rust_of(path):
-    """Returns the Rust form of a source."""
     crate, lines = crate_of(path), read(path).split("\n")
-    forms = {"fn": function_form, **dict.fromkeys(["impl", "trait", "struct"], block_form)}
-    for item in (it for it in items(path) if it.kind in forms):
-        made = forms[item.kind](item).split("\n")
+    for item in (it for it in items(path) if it.kind in ("fn", "impl", "trait", "struct")):
+        made = (function_form if item.kind == "fn" else block_form)(item).split("\n")
         lines[item.line - 1 : item.line - 1 + len(made)] = made
     topics = read(f"crates/vecmap/src/{crate.removeprefix('vecmap_')}.rt")
     by_topic = lambda it: (topics.find(f"`{it.split()[-1][:-1]}.rt`") % 10**6, it)
@@ -104,46 +94,33 @@ def constant(path, found, own, place):
     name, words = own.rpartition("::")[2], [it for it in found.comment if not it.startswith("Example: ")]
     if not words and (path[0] == "/" or re.search(rf"^ *pub {found.name} ", found.text, re.MULTILINE)):
         words = ["A definition of std." if path[0] == "/" else "A fact on a definition."]
-    made = f"pub const r#{name}: () = ();"
-    if not words:
-        return made  # A lint of rustdoc names it.
-    examples = [f"*Example:* {it[9:]}" for it in found.comment if it not in words and it.startswith("Example: ")]
-    text = block(path, found.line + 1, name, found.text, own=own)
+    examples = [f"*Example:* {it[9:]}" for it in found.comment if it not in words]
+    text = Block(path, found.line + 1, name, found.text, own=own).mark
     use = f"```text\nghost use Rattle.{place.replace('::', '.')}.{{{name}}};\n```"
-    return doc("\n\n".join([*words[-1:], *words[:-1], *examples, text, use])) + made
-
-
-def line_form(line):
-    """Returns the Rust form of a line of a file of definitions: it passes a module on, or has none."""
-    if found := PASSED_ON.fullmatch(line):
-        return f"pub use {found[1]}::specs::{found[2]} as {found[3] or found[2]};"
-    found = re.fullmatch(r"pub mod ([A-Z]\w*)", line)
-    return f'#[path = "{found[1]}.antt"] {line};' if found else ""
+    about = [*words[-1:], *words[:-1], *examples, text, use] if words else []  # A lint of rustdoc names it.
+    return doc("\n\n".join(about)) + f"pub const r#{name}: () = ();"
 
 
 def definition_form(path):
-    """Returns the Rust form of a file of definitions."""
-    module, lines = module_of(path), [line_form(it) for it in read(path).split("\n")]
+    """Returns the Rust form of a file of definitions. A line without one passes a module on, names one, or is empty."""
+    module = module_of(path)
     passed = PASSED_ON.findall(read("crates/vecmap/specs/Lib.antt"))
     places = {f"{home}::specs::{name}": f"vecmap::specs::{alias or name}" for home, name, alias in passed}
+    text = PASSED_ON.sub(lambda it: f"pub use {it[1]}::specs::{it[2]} as {it[3] or it[2]};", read(path))
+    text = re.sub(r"^pub mod ([A-Z]\w*)$", r'#[path = "\1.antt"] \g<0>;', text, flags=re.MULTILINE)
+    lines = [it if it.startswith(("pub use", "#[path")) and it[-1] == ";" else "" for it in text.split("\n")]
     for it in definitions(path):
         lines[it.line] = constant(path, it, f"{module}::{it.name}", places.get(module, module))
     return f"#!{doc(opening(path) or 'The definitions that contracts name.')[1:]}" + "\n".join(lines)
 
 
-def tree(constants, within):
-    """Returns constants by their paths as modules of Rust."""
+def definitions_of_std(within="std::"):
+    """Returns the definitions of std that contracts name, and those that these name, as modules of Rust."""
+    while ahead := [it for it in OF_KIT if it not in CONSTANTS]:
+        CONSTANTS.update((it, constant(*OF_KIT[it], it, it.rpartition("::")[0])) for it in ahead)
     made = ""
-    for name in sorted({it.removeprefix(within).split("::")[0] for it in constants if it.startswith(within)}):
-        below = tree(constants, f"{within}{name}::")
-        made += constants.get(within + name, "") + "\n"
+    for name in sorted({it.removeprefix(within).split("::")[0] for it in CONSTANTS if it.startswith(within)}):
+        below = definitions_of_std(f"{within}{name}::")
+        made += CONSTANTS.get(within + name, "") + "\n"
         made += f"/// Definitions of std.\npub mod {name} {{\n{below}}}\n" if below else ""
     return made
-
-
-def definitions_of_std():
-    """Returns the definitions of std that contracts name, and those that these name, as modules of Rust."""
-    made = {}
-    while ahead := [it for it in OF_KIT if it not in made]:
-        made |= {it: constant(*OF_KIT[it], it, it.rpartition("::")[0]) for it in ahead}
-    return tree(made, "std::")

@@ -1,27 +1,17 @@
-"""Finds where the names of contracts and definitions lead: to a definition, a type, or a row of the page on contracts."""
+"""Finds where names in contracts and definitions lead: to a definition, a type, or a row of the page on contracts."""
 
 import functools
-import os
 import re
-import shutil
-import subprocess
 
-from rattle import DEFINED, crate_of, definitions, files, items, read, sources, table_rows
+from rattle import DEFINED, crate_of, definitions, items, kit, read, sources, table_rows
 
-IMPORT = re.compile(r"^(?: *ghost)? *(?:pub )?use ([\w.]+)(?:\.\{([^}]*)\}| as (\w+))", re.MULTILINE)
-# An import of several places, as `use A.{B.c, C.{d, e}}`, and one of these.
-NESTED = re.compile(r"^(.*\buse [\w.]+)\.\{((?:[\w'.-]+\.(?:\{[^{}]*\}|[\w'-]+)(?:, )?)+)\}", re.MULTILINE)
-PART = re.compile(r"([\w'.-]+)\.(?:\{([^}]*)\}|([\w'-]+))")
+# An import: a tree of paths, as `A.{B.c, C.{d, e as f}}`, or a module under another name. Then a part of such a tree.
+IMPORT = re.compile(r"^(?: *ghost)? *(?:pub )?use ([\w.]+(?:\.\{(?:[^{}]|\{[^{}]*\})*\}| as \w+))", re.MULTILINE)
+PART = re.compile(r"([^\s,{}][^,{}]*)(?:\{((?:[^{}]|\{[^{}]*\})*)\})?")
 # The place that the logic has for a type of a program, or for its variants.
 DECLARED = re.compile(r"Rattle\.(\w+)\.specs\.declared\.(?:[a-z_]+\.)*([A-Z]\w*)(\.TheVariants)?")
 # By the path of each definition of the kit that has a page: its file, and itself; and the path by its file and names.
 OF_KIT, FIRST = {}, {}
-
-
-@functools.cache
-def kit():
-    """Returns the folder of the kit's sources, or nothing if `rt` is not on the path."""
-    return os.path.dirname(subprocess.getoutput("rt doc").strip()) + "/rattle" if shutil.which("rt") else ""
 
 
 def module_of(path):
@@ -30,18 +20,12 @@ def module_of(path):
     return re.sub(r"^crates/|/src(?=/)|(/[lL]ib)?\.(rt|antt)$", "", path).replace("/", "::")
 
 
-def section(title):
-    """Returns the text below a heading of the pages, or nothing."""
-    found = (f"\n{read(it)}".partition(f"\n## {title}\n")[2] for it in files("*.md", "docs/*.md", "crates/*/*.md"))
-    return next((it.split("\n## ")[0] for it in found if it), "")
-
-
 @functools.cache
 def rows(of_labels=False):
     """Returns what the page on contracts says of each sign, word and member of a trait, as `.eq`, or of each label."""
-    title = "Labels" if of_labels else "Signs"
-    made, text = {}, read(".ci/reference/contracts.md").partition(f"\n# {title}")[2].partition("\n# ")[0]
-    for first, told, *_ in table_rows(text)[2:]:
+    _, _, signs, labels = read(".ci/reference/contracts.md").split("\n# ")
+    made = {}
+    for first, told, *_ in table_rows(labels if of_labels else signs)[2:]:
         names = re.findall(r"`([^`]+)`", first.replace("\\", ""))
         each = re.split(r"; (?![^(]*\))", told)
         made |= dict(zip(names, each if len(each) == len(names) else [told] * len(names)))
@@ -50,29 +34,30 @@ def rows(of_labels=False):
 
 @functools.cache
 def fixed():
-    """Returns where the words of the logic lead, and each member of a trait, such as `.equivalent` of `Q.equivalent`."""
+    """Returns where the words of the logic lead, and the members of traits, such as `.equivalent` of `Q.equivalent`."""
     found = {it: f"contracts#{it}" for it in rows()}
-    traits = [it for crate in DEFINED for path in sources(crate) for it in items(path) if it.kind == "trait"]
-    for trait in (it for it in traits if it.is_public):
+    for trait in (it for path in sources(*DEFINED) for it in items(path) if it.kind == "trait" and it.is_public):
         names = re.findall(r"^    (?:fn|ghost|type) (\w+)", trait.members, re.MULTILINE)
         found |= {f".{it}": f"{crate_of(trait.path)}::{trait.name}" for it in names}
     return found
 
 
-def one_each(found):
-    """Returns a nested import as one of each place."""
-    parts = ((it[1], it[2] or it[3]) for it in PART.finditer(found[2]))
-    return "\n".join(f"{found[1]}.{place}.{{{names}}}" for place, names in parts)
+def leaves(tree, above=""):
+    """Yields the leaves of an import: the name that each gets, the place that it is from, and its name there."""
+    for path, below in PART.findall(tree):
+        name, _, alias = f"{above}{path}".strip().partition(" as ")
+        place, _, name = name.rpartition(".")
+        yield from leaves(below, above + path) if below else [(alias or name, place, name)]
 
 
 def imports(path):
     """Yields what a file imports: the name there, the place that it is from, and its name there."""
-    text = NESTED.sub(one_each, read(path))
-    for place, group, module in IMPORT.findall(text):
-        for name, _, alias in (it.strip().partition(" as ") for it in group.split(",") if group):
-            yield alias or name, place, name
-        if module:  # As in `entries.lookup`.
-            yield from ((f"{module}.{it}", place, it) for it in re.findall(rf"\b{module}\.([A-Za-z]\w*)", read(path)))
+    for tree in IMPORT.findall(read(path)):
+        module, _, alias = tree.partition(" as ")
+        if "{" in tree:
+            yield from leaves(tree)
+        else:  # As in `entries.lookup`.
+            yield from ((f"{alias}.{it}", module, it) for it in re.findall(rf"\b{alias}\.([A-Za-z]\w*)", read(path)))
 
 
 @functools.cache
@@ -80,7 +65,7 @@ def names_in(path):
     """Returns where each name of a file leads: a path, or a place of the logic and the name there."""
     text, place = read(path), f"Rattle.{module_of(path).replace('::', '.')}"
     found = fixed() | {it: fixed().get(f".{it}", "") for it in re.findall(r"^    ghost (\w+): \{", text, re.MULTILINE)}
-    found |= {it[0] or it[1]: "" for it in re.findall(r"^ *([\w'-]+) : .*≡|^.*use [\w.]+ as (\w+);?$", text, re.MULTILINE)}
+    found |= dict.fromkeys(re.findall(r"^ *([\w'-]+) : .*≡", text, re.MULTILINE), "")
     found |= {it.name: (place, it.name) for it in definitions(path)}
     return found | {alias: (place, name) for alias, place, name in imports(path)}
 
@@ -88,21 +73,21 @@ def names_in(path):
 @functools.cache
 def path_of(place, name):
     """Returns the path of a definition, a type or a variant by its place in the logic, or nothing if it has no page."""
-    if found := DECLARED.fullmatch(place):
-        crate = re.sub("^(?:core|std_.*)", "std", found[1])
-        if crate == "std" and name in fixed() or not found[3] and name != found[2]:
-            return fixed().get(name) or fixed().get(f".{name}", "")
-        return f"{crate}::{found[2]}" + f"::{name}" * bool(found[3])
-    if crate := re.match(rf"Rattle\.(?:{'|'.join(DEFINED)})\.", place):
-        is_public = re.match(r"specs\.(?!contracts|formers|declared)", place[crate.end() :])
-        return f"{place[7:]}.{name}".replace(".", "::") if is_public else fixed().get(name, "")
     place = re.sub(r"^Rattle\.(core|std_\w+)\.", "Rattle.std.", place)
-    if not kit() or not (found := look_up(place, name)):
-        return fixed().get(name, "")
-    key, path = (found[0], found[1].name, name), f"{place[7:]}.{name}".replace(".", "::")
-    if place.startswith("Rattle.std.specs.") and key not in FIRST:
-        FIRST[key], OF_KIT[path] = path, found
-    return FIRST.get(key, fixed().get(name, ""))
+    if found := DECLARED.fullmatch(place):
+        crate, owner, is_variant = found.groups()
+        if crate == "std" and name in fixed() or not is_variant and name != owner:
+            return fixed().get(name) or fixed().get(f".{name}", "")
+        return f"{crate}::{owner}" + f"::{name}" * bool(is_variant)
+    crate, _, rest = place.removeprefix("Rattle.").partition(".")
+    path, otherwise = f"{crate}.{rest}.{name}".replace(".", "::"), fixed().get(name, "")
+    if crate in DEFINED:
+        return path if re.match(r"specs\.(?!contracts|formers|declared)", rest) else otherwise
+    found = look_up(place, name)
+    key = found and (found[0], found[1].name, name)
+    if found and path.startswith("std::specs::"):
+        OF_KIT[FIRST.setdefault(key, path)] = found
+    return FIRST.get(key, otherwise)
 
 
 @functools.cache

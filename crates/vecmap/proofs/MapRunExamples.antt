@@ -1,6 +1,6 @@
 -- What each line of `ListStep`, and of `CapacityStep`, says of maps of two or three pairs. The keys `(1, x)` and `(1, y)` are
 -- equal.
-use Rattle.std.specs.Prelude.{◌≡◌, ◌<◌, ◌≤◌, ℕ, Bool, List, [], ◌∷◌, None, Option, Some, false, length, nat_eq, refl, true, ⊤}
+use Rattle.std.specs.Prelude.{◌≡◌, ◌<◌, ◌≤◌, ℕ, Bool, List, [], ◌∷◌, None, Option, Some, length, nat_eq, refl, true, ⊤}
 use Rattle.std.specs.declared.clone.Clone as clone
 use Rattle.vecmap.specs.MapRun.{CapacityStep, Effect, ListStep, PutsInRoom, RepliesPair, RepliesPairs, RepliesValue, Run, Step}
 use Rattle.vecmap.specs.{declared.map_run.command.MapCommand.MapCommand, declared.map_run.reply.MapReply.MapReply}
@@ -53,21 +53,17 @@ module _ {T : Type 0} (x y : T) (keys : clone.Ghosts (ℕ × T)) (values : clone
 
   insertions :
       (step (Insert (1, y) 30) (Value old) ≡ ((old ≡ Some 10) × (m ≡ ((1, x), 30) ∷ b ∷ [])))
-      × (step (Insert (3, x) 30) (Value old) ≡ ((old ≡ None) × (m ≡ a ∷ b ∷ c ∷ [])))
       × (step (Insert (2, y) 30) NoMemory ≡ ((at 1 ≡ None) × (m ≡ l)))
       × (step (InsertFull (2, y) 30) (Full index old) ≡ ((index ≡ 1) × (old ≡ Some 20) × (m ≡ a ∷ ((2, x), 30) ∷ [])))
-      × (step (InsertFull (3, x) 30) (Full index old) ≡ ((index ≡ 2) × (old ≡ None) × (m ≡ a ∷ b ∷ c ∷ [])))
       × (step (InsertFull (2, y) 30) NoMemory ≡ ((at 1 ≡ None) × (m ≡ l)))
       × (step (InsertAt 1 (1, y) 30) (Moved moved) ≡ ((1 ≤ 2) × (moved ≡ Some (0, 10)) × (m ≡ b ∷ ((1, y), 30) ∷ [])))
-      × (step (InsertAt 1 (3, x) 30) (Moved moved) ≡ ((1 ≤ 2) × (moved ≡ None) × (m ≡ a ∷ c ∷ b ∷ [])))
       × (step (InsertAt i (1, y) 30) OutOfRange ≡ ((2 < i) × (m ≡ l)))
       × (step (InsertAt i (1, y) 30) NoMemory ≡ ((i ≤ 2) × (at 0 ≡ None) × (m ≡ l)))
       × (step (InsertKey (1, y) 30) (Pair pair) ≡ ((pair ≡ Some a) × (m ≡ ((1, y), 30) ∷ b ∷ [])))
       × (step (InsertKey (1, y) 30) NoMemory ≡ ((at 0 ≡ None) × (m ≡ l)))
-      × (step (OrInsert (2, y) 30) (Kept index added) ≡ ((index ≡ 1) × (added ≡ false) × (m ≡ l)))
       × (step (OrInsert (3, x) 30) (Kept index added) ≡ ((index ≡ 2) × (added ≡ true) × (m ≡ a ∷ b ∷ c ∷ [])))
       × (step (OrInsert (2, y) 30) NoMemory ≡ ((at 1 ≡ None) × (m ≡ l)))
-  insertions = (refl, refl, refl, refl, refl, refl, refl, refl, refl, refl, refl, refl, refl, refl, refl)
+  insertions = (refl, refl, refl, refl, refl, refl, refl, refl, refl, refl, refl)
 
   lookups :
       (step (Get (2, y)) reply ≡ (RepliesValue values (Some 20) reply × (m ≡ l)))
@@ -79,8 +75,7 @@ module _ {T : Type 0} (x y : T) (keys : clone.Ghosts (ℕ × T)) (values : clone
       × (step Len (Number index) ≡ ((index ≡ 2) × (m ≡ l)))
       × (step ToVec reply ≡ (RepliesPairs keys values l reply × (m ≡ l)))
       × (step (Equals same) (Truth truth) ≡ ((truth ≡ true) × (m ≡ l)))
-      × (step (Equals other) (Truth truth) ≡ ((truth ≡ false) × (m ≡ l)))
-  lookups = (refl, refl, refl, refl, refl, refl, refl, refl, refl, refl)
+  lookups = (refl, refl, refl, refl, refl, refl, refl, refl, refl)
 
   removals :
       (step (Remove (1, y)) (Value old) ≡ ((old ≡ Some 10) × (m ≡ b ∷ [])))
@@ -92,7 +87,8 @@ module _ {T : Type 0} (x y : T) (keys : clone.Ghosts (ℕ × T)) (values : clone
       × (step3 (SwapRemoveIndex 0) (Pair pair) ≡ ((0 < 3) × (pair ≡ Some a) × (m ≡ c ∷ b ∷ [])))
       × (step (SwapRemoveIndex i) OutOfRange ≡ ((2 ≤ i) × (m ≡ l)))
       × (step Pop (Pair pair) ≡ ((pair ≡ Some b) × (m ≡ a ∷ [])))
-  removals = (refl, refl, refl, refl, refl, refl, refl, refl, refl)
+      × (step Pop Done ≡ ⊥)
+  removals = (refl, refl, refl, refl, refl, refl, refl, refl, refl, refl)
 
   lists :
       (step3 (SwapIndices 0 2) Done ≡ ((0 < 3) × (2 < 3) × (m ≡ c ∷ b ∷ a ∷ [])))
@@ -107,34 +103,18 @@ module _ {T : Type 0} (x y : T) (keys : clone.Ghosts (ℕ × T)) (values : clone
       × (step (SplitOff i) NoMemory ≡ ((i < 2) × (m ≡ l)))
   lists = (refl, refl, refl, refl, refl, refl, refl, refl, refl, refl)
 
-  -- No other reply is possible. Here each command has one of those.
-  impossible :
-      (step (Insert (1, x) 30) Done ≡ ⊥) × (step (InsertFull (1, x) 30) Done ≡ ⊥)
-      × (step (InsertAt i (1, x) 30) Done ≡ ⊥) × (step (InsertKey (1, x) 30) Done ≡ ⊥)
-      × (step (OrInsert (1, x) 30) Done ≡ ⊥) × (step (IndexOf (1, x)) Done ≡ ⊥)
-      × (step (ContainsKey (1, x)) Done ≡ ⊥) × (step Len Done ≡ ⊥) × (step (Remove (1, x)) Done ≡ ⊥)
-      × (step (RemoveEntry (1, x)) Done ≡ ⊥) × (step (SwapRemove (1, x)) Done ≡ ⊥)
-      × (step (SwapRemoveEntry (1, x)) Done ≡ ⊥) × (step (RemoveIndex i) Done ≡ ⊥)
-      × (step (SwapRemoveIndex i) Done ≡ ⊥) × (step Pop Done ≡ ⊥) × (step (SplitOff i) Done ≡ ⊥)
-      × (step (Equals other) Done ≡ ⊥) × (step (SwapIndices i j) NoMemory ≡ ⊥) × (step (Truncate i) NoMemory ≡ ⊥)
-      × (step Clear NoMemory ≡ ⊥) × (step Reverse NoMemory ≡ ⊥) × (step (Append other) OutOfRange ≡ ⊥)
-  impossible = (refl, refl, refl, refl, refl, refl, refl, refl, refl, refl, refl, refl, refl, refl, refl, refl, refl, refl, refl, refl, refl, refl)
-
   -- The commands that clone reply a clone, or `NoMemory` if the clone can fail.
   clones :
       (step (Get (2, y)) (Value (Some 30)) ≡ (values.is_clone 20 30 × (m ≡ l)))
-      × (step (Get (2, y)) (Value None) ≡ (⊥ × (m ≡ l)))
-      × (step (Get (3, x)) (Value None) ≡ (⊤ × (m ≡ l)))
       × (step (Get (2, y)) NoMemory ≡ (¬ (values.is_infallible 20) × (m ≡ l)))
       × (step (Get (2, y)) Done ≡ (⊥ × (m ≡ l)))
       × (step First (Pair (Some ((1, y), 30))) ≡ ((keys.is_clone (1, x) (1, y) × values.is_clone 10 30) × (m ≡ l)))
-      × (step First (Pair None) ≡ (⊥ × (m ≡ l)))
       × (step First NoMemory ≡ (¬ (keys.is_infallible (1, x) × values.is_infallible 10) × (m ≡ l)))
       × (step First Done ≡ (⊥ × (m ≡ l)))
       × ((copies : _) → step ToVec (Pairs copies) ≡ (ArePairClones keys.is_clone values.is_clone l copies.items × (m ≡ l)))
       × (step ToVec NoMemory ≡ (⊤ × (m ≡ l)))
       × (step ToVec Done ≡ (⊥ × (m ≡ l)))
-  clones = (refl, refl, refl, refl, refl, refl, refl, refl, refl, (λ copies. refl), refl, refl)
+  clones = (refl, refl, refl, refl, refl, refl, (λ copies. refl), refl, refl)
 
   -- The capacity.
   rooms :
@@ -150,12 +130,7 @@ module _ {T : Type 0} (x y : T) (keys : clone.Ghosts (ℕ × T)) (values : clone
       × (capacity (Append other) Done ≡ ((2 ≤ new.capacity) × (4 ≤ 2 → new.capacity ≡ 2)))
       × (capacity (Append other) NoMemory ≡ (¬ (4 ≤ 2) × (new.capacity ≡ 2)))
       × (capacity (Get (2, y)) reply ≡ (new.capacity ≡ 2))
-      × (capacity (Remove (2, y)) reply ≡ (new.capacity ≡ 2))
-      × (capacity (Truncate i) reply ≡ (new.capacity ≡ 2))
-      × (capacity Clear reply ≡ (new.capacity ≡ 2))
-      × (capacity Reverse reply ≡ (new.capacity ≡ 2))
-      × (capacity (SplitOff i) reply ≡ (new.capacity ≡ 2))
-  rooms = (refl, refl, refl, refl, refl, refl, refl, refl, refl, refl, refl, refl, refl, refl, refl, refl, refl)
+  rooms = (refl, refl, refl, refl, refl, refl, refl, refl, refl, refl, refl, refl)
 
   -- Both together, and commands in order.
   runs :

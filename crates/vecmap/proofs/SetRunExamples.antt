@@ -1,5 +1,5 @@
 -- What each line of `ListStep`, and of `CapacityStep`, says of sets of two or three elements. `(1, x)` and `(1, y)` are equal.
-use Rattle.std.specs.Prelude.{◌≡◌, ◌<◌, ◌≤◌, ◌↔◌, ℕ, Bool, IsTrue, List, [], ◌∷◌, None, Option, Some, false, length, nat_eq, refl, true, ⊤}
+use Rattle.std.specs.Prelude.{◌≡◌, ◌<◌, ◌≤◌, ◌↔◌, ℕ, Bool, IsTrue, List, [], ◌∷◌, Option, Some, false, length, nat_eq, refl, true, ⊤}
 use Rattle.std.specs.List.{IsDistinct}
 use Rattle.std.specs.declared.clone.Clone as clone
 use Rattle.vecmap.specs.SetRun.{AddsInRoom, CapacityStep, Effect, ListStep, MakesSet, RepliesItem, RepliesItems, Run, Step}
@@ -53,12 +53,10 @@ module _ {T : Type 0} (x y : T) (clones : clone.Ghosts (ℕ × T)) (reply : SetR
 
   insertions :
       (step (Insert (3, x)) (Truth truth) ≡ ((truth ≡ true) × (m ≡ a ∷ b ∷ c ∷ [])))
-      × (step (Insert (2, y)) (Truth truth) ≡ ((truth ≡ false) × (m ≡ l)))
       × (step (Insert (2, y)) NoMemory ≡ ((true ≡ false) × (m ≡ l)))
       × (step (Replace (1, y)) (Item item) ≡ ((item ≡ Some a) × (m ≡ (1, y) ∷ b ∷ [])))
-      × (step (Replace (3, x)) (Item item) ≡ ((item ≡ None) × (m ≡ a ∷ b ∷ c ∷ [])))
       × (step (Replace (2, y)) NoMemory ≡ ((true ≡ false) × (m ≡ l)))
-  insertions = (refl, refl, refl, refl, refl, refl)
+  insertions = (refl, refl, refl, refl)
 
   lookups :
       (step (Get (2, y)) reply ≡ (RepliesItem clones (Some b) reply × (m ≡ l)))
@@ -70,13 +68,10 @@ module _ {T : Type 0} (x y : T) (clones : clone.Ghosts (ℕ × T)) (reply : SetR
       × (step Len (Number index) ≡ ((index ≡ 2) × (m ≡ l)))
       × (step ToVec reply ≡ (RepliesItems clones l reply × (m ≡ l)))
       × (step (Equals same) (Truth truth) ≡ ((truth ≡ true) × (m ≡ l)))
-      × (step (Equals other) (Truth truth) ≡ ((truth ≡ false) × (m ≡ l)))
       × (step (IsSubset larger) (Truth truth) ≡ ((truth ≡ true) × (m ≡ l)))
-      × (step3 (IsSubset same) (Truth truth) ≡ ((truth ≡ false) × (m ≡ a ∷ b ∷ c ∷ [])))
       × (step3 (IsSuperset same) (Truth truth) ≡ ((truth ≡ true) × (m ≡ a ∷ b ∷ c ∷ [])))
-      × (step (IsSuperset larger) (Truth truth) ≡ ((truth ≡ false) × (m ≡ l)))
       × (step3 (IsDisjoint same) (Truth truth) ≡ ((IsTrue truth ↔ (l ≡ [])) × (m ≡ a ∷ b ∷ c ∷ [])))
-  lookups = (refl, refl, refl, refl, refl, refl, refl, refl, refl, refl, refl, refl, refl, refl, refl)
+  lookups = (refl, refl, refl, refl, refl, refl, refl, refl, refl, refl, refl, refl)
 
   removals :
       (step3 (Remove (1, y)) (Truth truth) ≡ ((truth ≡ true) × (m ≡ b ∷ c ∷ [])))
@@ -88,7 +83,8 @@ module _ {T : Type 0} (x y : T) (clones : clone.Ghosts (ℕ × T)) (reply : SetR
       × (step3 (SwapRemoveIndex 0) (Item item) ≡ ((0 < 3) × (item ≡ Some a) × (m ≡ c ∷ b ∷ [])))
       × (step (SwapRemoveIndex i) OutOfRange ≡ ((2 ≤ i) × (m ≡ l)))
       × (step Pop (Item item) ≡ ((item ≡ Some b) × (m ≡ a ∷ [])))
-  removals = (refl, refl, refl, refl, refl, refl, refl, refl, refl)
+      × (step Pop Done ≡ ⊥)
+  removals = (refl, refl, refl, refl, refl, refl, refl, refl, refl, refl)
 
   lists :
       (step3 (SwapIndices 0 2) Done ≡ ((0 < 3) × (2 < 3) × (m ≡ c ∷ b ∷ a ∷ [])))
@@ -110,23 +106,9 @@ module _ {T : Type 0} (x y : T) (clones : clone.Ghosts (ℕ × T)) (reply : SetR
       × (step (Subtract other) reply ≡ (MakesSet eq clones (b ∷ []) reply × (m ≡ l)))
   sets = (refl, refl, refl, refl)
 
-  -- No other reply is possible. Here each command has one of those.
-  impossible :
-      (step (Insert (1, x)) Done ≡ ⊥) × (step (Replace (1, x)) Done ≡ ⊥) × (step (IndexOf (1, x)) Done ≡ ⊥)
-      × (step (Contains (1, x)) Done ≡ ⊥) × (step Len Done ≡ ⊥) × (step (Remove (1, x)) Done ≡ ⊥)
-      × (step (Take (1, x)) Done ≡ ⊥) × (step (SwapRemove (1, x)) Done ≡ ⊥) × (step (SwapTake (1, x)) Done ≡ ⊥)
-      × (step (RemoveIndex i) Done ≡ ⊥) × (step (SwapRemoveIndex i) Done ≡ ⊥) × (step Pop Done ≡ ⊥)
-      × (step (SplitOff i) Done ≡ ⊥) × (step (Equals other) Done ≡ ⊥) × (step (IsSubset other) Done ≡ ⊥)
-      × (step (IsSuperset other) Done ≡ ⊥) × (step (IsDisjoint other) Done ≡ ⊥)
-      × (step (SwapIndices i j) NoMemory ≡ ⊥) × (step (Truncate i) NoMemory ≡ ⊥) × (step Clear NoMemory ≡ ⊥)
-      × (step Reverse NoMemory ≡ ⊥) × (step (Append other) OutOfRange ≡ ⊥)
-  impossible = (refl, refl, refl, refl, refl, refl, refl, refl, refl, refl, refl, refl, refl, refl, refl, refl, refl, refl, refl, refl, refl, refl)
-
   -- The commands that clone reply a clone, or `NoMemory` if the clone can fail.
   copies :
       (step (Get (2, y)) (Item (Some (2, y))) ≡ (clones.is_clone (2, x) (2, y) × (m ≡ l)))
-      × (step (Get (2, y)) (Item None) ≡ (⊥ × (m ≡ l)))
-      × (step (Get (3, x)) (Item None) ≡ (⊤ × (m ≡ l)))
       × (step (Get (2, y)) NoMemory ≡ (¬ (clones.is_infallible (2, x)) × (m ≡ l)))
       × (step (Get (2, y)) Done ≡ (⊥ × (m ≡ l)))
       × ((items : _) → step ToVec (Items items) ≡ (AreClones clones.is_clone l items.items × (m ≡ l)))
@@ -135,7 +117,7 @@ module _ {T : Type 0} (x y : T) (clones : clone.Ghosts (ℕ × T)) (reply : SetR
       × (step (Subtract other) (Made made) ≡ ((AreClones clones.is_clone (b ∷ []) made.elements × IsDistinct eq made.elements) × (m ≡ l)))
       × (step (Subtract other) NoMemory ≡ (⊤ × (m ≡ l)))
       × (step (Subtract other) Done ≡ (⊥ × (m ≡ l)))
-  copies = (refl, refl, refl, refl, refl, (λ items. refl), refl, refl, refl, refl, refl)
+  copies = (refl, refl, refl, (λ items. refl), refl, refl, refl, refl, refl)
 
   -- The capacity.
   rooms :
@@ -146,12 +128,7 @@ module _ {T : Type 0} (x y : T) (clones : clone.Ghosts (ℕ × T)) (reply : SetR
       × (capacity (Append other) Done ≡ ((2 ≤ new.capacity) × (4 ≤ 2 → new.capacity ≡ 2)))
       × (capacity (Append other) NoMemory ≡ (¬ (4 ≤ 2) × (new.capacity ≡ 2)))
       × (capacity (Get (2, y)) reply ≡ (new.capacity ≡ 2))
-      × (capacity (Remove (2, y)) reply ≡ (new.capacity ≡ 2))
-      × (capacity (Truncate i) reply ≡ (new.capacity ≡ 2))
-      × (capacity Clear reply ≡ (new.capacity ≡ 2))
-      × (capacity Reverse reply ≡ (new.capacity ≡ 2))
-      × (capacity (SplitOff i) reply ≡ (new.capacity ≡ 2))
-  rooms = (refl, refl, refl, refl, refl, refl, refl, refl, refl, refl, refl, refl)
+  rooms = (refl, refl, refl, refl, refl, refl, refl)
 
   -- Both together, and commands in order.
   runs :

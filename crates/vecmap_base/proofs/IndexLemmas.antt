@@ -86,17 +86,14 @@ module _ {X : Type 0} (p : X → Bool) where
 
   -- The first match stays where it is if other items follow.
   pub position_front : (ys s : List X) (i : ℕ) → position p s ≡ Some i → position p (s ++ ys) ≡ Some i
-  position_front ys [] i e = absurd (none-some i e)
-  position_front ys (x ∷ xs) i e =
-      position_cons x (xs ++ ys) ∙ later (p x) (position p xs) (position p (xs ++ ys)) i (λ j h n. position_front ys xs j h) (sym (position_cons x xs) ∙ e)
+  position_front ys [] i e = grind (arith, none-some, position_cons, later)
+  position_front ys (x ∷ xs) i e = grind (arith, none-some, position_cons, later, (position_front ys xs))
 
   -- So does one among the items that are left.
   pub position_stays : (n : ℕ) (s : List X) (i : ℕ) → position p s ≡ Some i → i < n → position p (take n s) ≡ Some i
-  position_stays n [] i e l = absurd (none-some i e)
-  position_stays zero (x ∷ xs) i e l = absurd (omega (arith, l))
-  position_stays (suc n) (x ∷ xs) i e l =
-      position_cons x (take n xs)
-      ∙ later (p x) (position p xs) (position p (take n xs)) i (λ j h next. position_stays n xs j h (omega (arith, next, l))) (sym (position_cons x xs) ∙ e)
+  position_stays n [] i e l = grind (arith, none-some, position_cons, later)
+  position_stays zero (x ∷ xs) i e l = grind (arith, none-some, position_cons, later)
+  position_stays (suc n) (x ∷ xs) i e l = grind (arith, none-some, position_cons, later, (position_stays n xs))
 
   -- So does one before an index up to which two lists are the same.
   pub position_before : (xs ys : List X) (n i : ℕ) → take n ys ≡ take n xs → i < n → position p xs ≡ Some i → position p ys ≡ Some i
@@ -112,22 +109,14 @@ module _ {X : Type 0} (p : X → Bool) where
 
   -- If one of the first `k` elements passes, one of all passes.
   pub list_any_front : (xs : List X) (k : ℕ) → list_any p (take k xs) ≡ true → list_any p xs ≡ true
-  list_any_front [] zero e = e
-  list_any_front [] (suc k) e = e
-  list_any_front (x ∷ xs) zero e = absurd (true≢false (sym e))
-  list_any_front (x ∷ xs) (suc k) e =
-      elim (cases_Bool (p x)) [
-        | inl h ↦ ap (λ b. b || list_any p xs) h
-        | inr h ↦ ap (λ b. b || list_any p xs) h ∙ list_any_front xs k (sym (ap (λ b. b || list_any p (take k xs)) h) ∙ e)
-      ]
+  list_any_front [] zero e = grind (arith, cases_Bool)
+  list_any_front [] (suc k) e = grind (arith, cases_Bool)
+  list_any_front (x ∷ xs) zero e = grind (arith, cases_Bool)
+  list_any_front (x ∷ xs) (suc k) e = grind (arith, cases_Bool, (list_any_front xs k))
 
 -- An item that was appended is at the last index.
 pub stored_last : {X : Type 0} (s r : List X) (x : X) → r ≡ s ++ x ∷ [] → slice_get r (length s) ≡ Some x
-stored_last {X} s r x e = ap (λ l. slice_get l (length s)) e ∙ at_end s
-  where
-    at_end : (ys : List X) → slice_get (ys ++ x ∷ []) (length ys) ≡ Some x
-    at_end [] = refl
-    at_end (y ∷ ys) = at_end ys
+stored_last s r x e = ap (λ l. slice_get l (length s)) e ∙ slice_get_last s x
 
 module _ {X Y : Type 0} (p : Y → Bool) (f : X → Y) where
   pub list_any_map : (xs : List X) → list_any p (map f xs) ≡ list_any (λ x. p (f x)) xs

@@ -1,21 +1,14 @@
 -- The records of insertions, from the list that is left.
 use Rattle.std.specs.{Cmp.IsEquivalence, Map.keys_of, Option.option_map_or}
-use Rattle.std.proofs.Common.{◌≡◌, ◌∙◌, ◌+◌, ◌-◌, ◌<◌, ◌≤◌, ◌++◌, ℕ, zero, suc, Bool, true, false, List, [], ◌∷◌, None, Option, Some, IsSome, ap, arith, if◌then◌else◌, insert, is_some, length, min, option_map, refl, remove, slice_get, sym, unwrap_or}
+use Rattle.std.proofs.Common.{◌≡◌, ◌∙◌, ◌+◌, ◌-◌, ◌≤◌, ◌++◌, ℕ, zero, suc, Bool, true, false, List, [], ◌∷◌, None, Option, Some, IsSome, ap, arith, if◌then◌else◌, insert, is_some, length, min, option_map, refl, remove, slice_get, sym, unwrap_or}
 use Rattle.std.proofs.{lemmas.List.{length-append, length-map}, lemmas.List.Edits.{length-insert, length-remove}}
 use Rattle.std.proofs.lemmas.Option.{none-some, slice_get_within}
 use Rattle.vecmap_base.specs.Insertions.{AddsKey, InsertsAt, PutsKey}
 use Rattle.vecmap_base.specs.Pairs.{index_by, index_of, index_or_length, lookup, put, put_at, put_key, with_pair}
-use Rattle.vecmap_base.proofs.{IndexLemmas.slice_get_last, MoveLemmas.inserted_found, PairsLemmas.AtIndices.{match_at, same_indices, stays}}
+use Rattle.vecmap_base.proofs.{IndexLemmas.slice_get_last, MoveLemmas.{front_inserted, inserted_found}, PairsLemmas.AtIndices.{match_at, same_indices, stays}}
 use Rattle.vecmap_base.proofs.{PairsLemmas.ByIndex.{index_by_none, is_some_lookup_by, put_key_by_index}, PairsLemmas.Lookups.updates_of_put}
 use Rattle.vecmap_base.proofs.{PairsLemmas.Indices.is_some_index_of, PairsLemmas.Keys.{keys_of_insert, keys_of_put}}
 use Rattle.vecmap_base.proofs.{PairsLemmas.Puts.{put_absent, put_stored}, PairsLemmas.Updates.{updates_put_at, updates_put_key}}
-
--- The items before an item that was inserted stay.
-front_inserted : {X : Type 0} (l : List X) (i j : ℕ) (x : X) → i ≤ length l → j < i → slice_get (insert l i x) j ≡ slice_get l j
-front_inserted l zero j x h less = absurd (omega arith)
-front_inserted [] (suc i) j x h less = absurd (omega arith)
-front_inserted (y ∷ ys) (suc i) zero x h less = refl
-front_inserted (y ∷ ys) (suc i) (suc j) x h less = front_inserted ys i j x (omega arith) (omega arith)
 
 suc_unwrapped : (found : Option ℕ) (n : ℕ) → suc (unwrap_or found n) ≡ unwrap_or (option_map suc found) (suc n)
 suc_unwrapped None n = refl
@@ -24,12 +17,8 @@ suc_unwrapped (Some i) n = refl
 module _ {K V : Type 0} (eq : K → K → Bool) where
   -- An insertion moves no key.
   pub indices_put : (test : K → Bool) (l : List (K × V)) (k : K) (v : V) (i : ℕ) → index_by test l ≡ Some i → index_by test (put eq l k v) ≡ Some i
-  indices_put test [] k v i e = absurd (none-some i e)
-  indices_put test (p ∷ ps) k v i e = by (eq k p.0) (indices_put test ps k v)
-    where
-      by : (b : Bool) → ((j : ℕ) → index_by test ps ≡ Some j → index_by test (put eq ps k v) ≡ Some j) → index_by test (if b then (p.0, v) ∷ ps else p ∷ put eq ps k v) ≡ Some i
-      by true rest = e
-      by false rest = stays (test p.0) (index_by test ps) (index_by test (put eq ps k v)) i (λ j f g. rest j f) e
+  indices_put test [] k v i e = grind (arith, none-some, stays)
+  indices_put test (p ∷ ps) k v i e = grind (arith, none-some, stays, (indices_put test ps k v))
 
   keys_put : (l : List (K × V)) (k : K) (v : V) → keys_of (put eq l k v) ≡ (if is_some (lookup eq l k) then keys_of l else keys_of l ++ k ∷ [])
   keys_put l k v = keys_of_put eq l k v ∙ ap (λ b. if b then keys_of l else keys_of l ++ k ∷ []) (sym (is_some_lookup_by (eq k) l ∙ is_some_index_of eq l k))
@@ -100,16 +89,10 @@ module _ {K V : Type 0} (eq : K → K → Bool) where
 
   module _ (o : IsEquivalence eq) where
     index_inserted : (l : List (K × V)) (i : ℕ) (k : K) (v : V) → i ≤ length l → index_of eq l k ≡ None → index_of eq (insert l i (k, v)) k ≡ Some i
-    index_inserted [] zero k v h absent = ap (λ b. if b then Some 0 else None) (o.refl k)
-    index_inserted (p ∷ ps) zero k v h absent = ap (λ b. if b then Some 0 else option_map suc (index_of eq (p ∷ ps) k)) (o.refl k)
-    index_inserted [] (suc i) k v h absent = absurd (omega arith)
-    index_inserted (p ∷ ps) (suc i) k v h absent = by (eq k p.0) (index_of eq ps k) refl absent (index_inserted ps i k v (omega arith))
-      where
-        by : (b : Bool) (found : Option ℕ) → index_of eq ps k ≡ found → (if b then Some 0 else option_map suc found) ≡ None → (index_of eq ps k ≡ None → index_of eq (insert ps i (k, v)) k ≡ Some i)
-            → (if b then Some 0 else option_map suc (index_of eq (insert ps i (k, v)) k)) ≡ Some (suc i)
-        by true found e none rest = absurd (none-some 0 (sym none))
-        by false None e none rest = ap (option_map suc) (rest e)
-        by false (Some j) e none rest = absurd (none-some (suc j) (sym none))
+    index_inserted [] zero k v h absent = grind (arith, option_map, none-some)
+    index_inserted (p ∷ ps) zero k v h absent = grind (arith, option_map, none-some)
+    index_inserted [] (suc i) k v h absent = grind (arith, option_map, none-some)
+    index_inserted (p ∷ ps) (suc i) k v h absent = grind (arith, option_map, none-some, (index_inserted ps i k v))
 
     -- After an insertion at an index.
     pub inserts_at : (l m : List (K × V)) (i : ℕ) (k : K) (v : V) → m ≡ put_at eq l i k v → i ≤ length l → InsertsAt eq i l k v m

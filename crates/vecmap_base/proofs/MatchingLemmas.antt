@@ -1,5 +1,5 @@
 -- Items without a mark, and two lists whose items are matched one to one.
-use Rattle.std.proofs.{lemmas.Grind.common_steps, Common.{drop, get_or, replicate, set, sym, ap, ◌∙◌, arith, true≢false, inl, inr, ⊎_elim}}
+use Rattle.std.proofs.{lemmas.Grind.common_steps, Common.{drop, get_or, replicate, set, sym, ap, ◌∙◌, arith, true≢false, inl, inr}}
 use Rattle.std.specs.Prelude.{◌≡◌, ℕ, zero, suc, ◌+◌, ◌-◌, ◌<◌, ◌≤◌, Bool, true, false, ◌&&◌, ◌||◌, not, List, [], ◌∷◌, None, Some, length, refl}
 use Rattle.std.specs.{Cmp.{IsEquivalence, IsPartialEquivalence}, List.{list_any, sum_by}}
 use Rattle.std.proofs.{lemmas.Bool.{and_from, cases_Bool, cases_lt, false_from_ne_true}, lemmas.Grind.get_or_after_one}
@@ -176,5 +176,4 @@ module _ {K V : Type 0} (key : K → K → Bool) (value : V → V → Bool) wher
 
   -- The same for one index more.
   pub none_free_next : (pairs : List (K × V)) (marks : List Bool) (p : K × V) (n : ℕ) → NoneFree pairs marks p n → (not (get_or marks n true) && same_pair key value p (get_or pairs n p)) ≡ false → NoneFree pairs marks p (n + 1)
-  none_free_next pairs marks p n before here k lt =
-      ⊎_elim (λ below. before k below) (λ above. let at : k ≡ n = omega arith in rw at here) (cases_lt k n)
+  none_free_next pairs marks p n before here k lt = grind (arith, cases_lt)

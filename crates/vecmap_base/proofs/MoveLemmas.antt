@@ -16,6 +16,20 @@ read_after_set (x ∷ xs) zero (suc n) y h = refl
 read_after_set (x ∷ xs) (suc i) zero y h = refl
 read_after_set (x ∷ xs) (suc i) (suc n) y h = read_after_set xs i n y (λ e. h (ap suc e))
 
+-- The items before one that is inserted, or removed, stay.
+pub front_inserted : {X : Type 0} (l : List X) (i j : ℕ) (x : X) → j < i → j < length l → slice_get (insert l i x) j ≡ slice_get l j
+front_inserted l zero j x less within = absurd (omega arith)
+front_inserted [] (suc i) j x less within = absurd (omega arith)
+front_inserted (y ∷ ys) (suc i) zero x less within = refl
+front_inserted (y ∷ ys) (suc i) (suc j) x less within = front_inserted ys i j x (omega arith) (omega arith)
+
+pub front_removed : {X : Type 0} (l : List X) (i j : ℕ) → j < i → slice_get (remove l i) j ≡ slice_get l j
+front_removed [] zero j h = refl
+front_removed [] (suc i) j h = refl
+front_removed (x ∷ xs) zero j h = absurd (omega arith)
+front_removed (x ∷ xs) (suc i) zero h = refl
+front_removed (x ∷ xs) (suc i) (suc j) h = front_removed xs i j (omega arith)
+
 differ : (n i : ℕ) → nat_eq n i ≡ false → n ≡ i → ⊥
 differ n i h e = true≢false (sym (eq-eqb n i e) ∙ h)
 
@@ -112,12 +126,10 @@ module _ {X : Type 0} where
 
   -- An item that has moved is removed from its new index, and found there.
   pub moved_removed : (xs ys : List X) (from to : ℕ) (x : X) → from < length xs → to < length xs → ys ≡ insert (remove xs from) to x → remove ys to ≡ remove xs from
-  moved_removed xs ys from to x before after e =
-      ap (λ l. remove l to) e ∙ inserted_removed (remove xs from) to x (omega (arith, length-remove xs from before, after))
+  moved_removed xs ys from to x before after e = grind (arith, inserted_removed, length-remove)
 
   pub moved_found : (xs ys : List X) (from to : ℕ) (d : X) → from < length xs → to < length xs → ys ≡ insert (remove xs from) to (get_or xs from d) → slice_get ys to ≡ slice_get xs from
-  moved_found xs ys from to d before after e =
-      ap (λ l. slice_get l to) e ∙ inserted_found (remove xs from) to (get_or xs from d) (omega (arith, length-remove xs from before, after)) ∙ sym (slice_get-get_or xs from d before)
+  moved_found xs ys from to d before after e = grind (arith, inserted_found, get_or, length-remove, slice_get-get_or)
 
   -- The items between `from` and `to` shift to the left, and `item` goes to `to`.
   remove_before : (xs : List X) (from to : ℕ) (item : X) → from ≤ to → to < length xs → remove (insert xs (suc to) item) from ≡ insert (remove xs from) to item
@@ -125,12 +137,6 @@ module _ {X : Type 0} where
   remove_before (z ∷ zs) zero to item order within = refl
   remove_before (z ∷ zs) (suc from) zero item order within = absurd (omega arith)
   remove_before (z ∷ zs) (suc from) (suc to) item order within = ap (λ l. z ∷ l) (remove_before zs from to item (omega arith) (omega arith))
-
-  found_before : (xs : List X) (from to : ℕ) (item : X) → from ≤ to → to < length xs → slice_get (insert xs (suc to) item) from ≡ slice_get xs from
-  found_before [] from to item order within = absurd (omega arith)
-  found_before (z ∷ zs) zero to item order within = refl
-  found_before (z ∷ zs) (suc from) zero item order within = absurd (omega arith)
-  found_before (z ∷ zs) (suc from) (suc to) item order within = found_before zs from to item (omega arith) (omega arith)
 
   -- The items between `to` and `from` shift to the right, and `item` goes to `to`.
   remove_after : (xs : List X) (from to : ℕ) (item : X) → to ≤ from → from < length xs → remove (insert xs to item) (suc from) ≡ insert (remove xs from) to item
@@ -150,7 +156,7 @@ module _ {X : Type 0} where
   carried_to xs ys from to next item x after order within long e =
       let moved : insert ys from x ≡ insert xs (suc to) item = e ∙ ap (λ m. insert xs m item) after in (
         sym (inserted_removed ys from x long) ∙ ap (λ l. remove l from) moved ∙ remove_before xs from to item order within,
-        sym (found_before xs from to item order within) ∙ ap (λ l. slice_get l from) (sym moved) ∙ inserted_found ys from x long,
+        sym (front_inserted xs (suc to) from item (omega (arith, order)) (omega (arith, order, within))) ∙ ap (λ l. slice_get l from) (sym moved) ∙ inserted_found ys from x long,
       )
 
   -- The same once each item from `to` up to `from` took the place after its own.
@@ -196,19 +202,9 @@ module _ {X : Type 0} where
   swapped_other (x ∷ xs) ys i j n e within below h k = grind (arith, swap_is, read_after_set, differ)
 
   -- A moved item leaves those before both indices at theirs.
-  kept_before : (xs : List X) (from to n : ℕ) (y : X) → from < length xs → n < from → n < to → slice_get (insert (remove xs from) to y) n ≡ slice_get xs n
-  kept_before [] from to n y within h k = absurd (omega (arith, within))
-  kept_before (x ∷ xs) zero to n y within h k = absurd (omega (arith, h))
-  kept_before (x ∷ xs) (suc from) zero n y within h k = absurd (omega (arith, k))
-  kept_before (x ∷ xs) (suc from) (suc to) zero y within h k = refl
-  kept_before (x ∷ xs) (suc from) (suc to) (suc n) y within h k = kept_before xs from to n y (omega (arith, within)) (omega (arith, h)) (omega (arith, k))
-
   pub moved_other : (xs ys : List X) (from to n : ℕ) → ys ≡ moved xs from to → from < length xs → n < from → n < to → slice_get ys n ≡ slice_get xs n
-  moved_other [] ys from to n e within h k = absurd (omega arith)
-  moved_other (x ∷ xs) ys from to n e within h k =
-      let at = slice_get-get_or (x ∷ xs) from x within in
-      ap (λ l. slice_get l n) (e ∙ ap (λ o. option_map_or (λ y. insert (remove (x ∷ xs) from) to y) o (x ∷ xs)) at)
-      ∙ kept_before (x ∷ xs) from to n (get_or (x ∷ xs) from x) within h k
+  moved_other [] ys from to n e within h k = grind (arith, slice_get-get_or, front_inserted, get_or, length-remove, front_removed)
+  moved_other (x ∷ xs) ys from to n e within h k = grind (arith, slice_get-get_or, front_inserted, get_or, length-remove, front_removed)
 
   -- In the reversed list, an item is as far from the end as it was from the start.
   pub at_reversed : (xs ys : List X) (i : ℕ) → ys ≡ reverse xs → i < length xs → slice_get ys (length xs - 1 - i) ≡ slice_get xs i

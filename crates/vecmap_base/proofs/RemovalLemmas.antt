@@ -1,22 +1,18 @@
--- The records of removals of pairs, from the list that is left.
-use Rattle.std.specs.{Cmp.IsEquivalence, List.Sorted.IsPermutation, Map.IsKeyTest, Option.option_map, Option.option_map_or, Option.option_to_list}
-use Rattle.std.proofs.Common.{◌≡◌, ◌∙◌, ◌+◌, ◌-◌, ◌++◌, ℕ, Bool, List, ◌∷◌, None, Option, Some, IfSome, ap, cond, if◌then◌else◌, is_some, length, remove, slice_get, sym, subst, take}
-use Rattle.std.proofs.lemmas.Map.Keys.{IsDistinct-tail}
+-- The records of removals of pairs, and of a split, from the list that is left.
+use Rattle.std.specs.{Cmp.IsEquivalence, List.Sorted.IsPermutation, Map.IsKeyTest, Option.option_map_or, Option.option_to_list}
+use Rattle.std.proofs.Common.{◌≡◌, ◌∙◌, ◌+◌, ◌-◌, ◌++◌, ℕ, Bool, List, ◌∷◌, None, Option, Some, ap, arith, cond, drop, if◌then◌else◌, is_some, length, remove, slice_get, sym, subst, take}
+use Rattle.std.proofs.lemmas.{List.take-append-drop, Map.Keys.IsDistinct-tail}
 use Rattle.vecmap_base.specs.{Items.swap_without, Pairs.{HasDistinctKeys, lookup_by, lookup_pair_by, swap_without_by, without_by}}
-use Rattle.vecmap_base.specs.Removals.{FindsPair, ForgetsIndex, ForgetsKey, RemovesAt, RemovesBy, RemovesLast, SwapRemovesAt, SwapRemovesBy}
+use Rattle.vecmap_base.specs.Removals.{FindsPair, ForgetsIndex, ForgetsKey, RemovesAt, RemovesBy, RemovesLast, SplitsAt, SwapRemovesAt, SwapRemovesBy}
 use Rattle.vecmap_base.proofs.{IndexLemmas.list_any_position, PairsLemmas.AtIndices.{shifts_indices, shifts_without}}
 use Rattle.vecmap_base.proofs.PairsLemmas.ByIndex.{index_by_is, is_some_lookup_by, is_some_lookup_pair_by, value_of_pair_by, without_by_index}
-use Rattle.vecmap_base.proofs.{PairsLemmas.Distinct.{distinct_keys_rearranged, distinct_keys_remove}, PairsLemmas.Parts.keeps_front_of}
+use Rattle.vecmap_base.proofs.{PairsLemmas.Distinct.{distinct_keys_rearranged, distinct_keys_remove}, PairsLemmas.Parts.{keeps_front_of, keys_of_parts, lookup_by_append, matches_rearranged}}
 use Rattle.vecmap_base.proofs.PairsLemmas.Updates.{key_passes, lookup_by_taken, updates_of_first}
 use Rattle.vecmap_base.proofs.TakenLemmas.{TakesFirst, first_by_shift, first_by_swap, last_read, last_taken, len_of_first, len_popped, one_less, taken_by_shift, taken_by_swap}
 
 module _ {K V : Type 0} (test : K → Bool) (l : List (K × V)) where
   pub finds_pair : (r : Option (K × V)) → r ≡ lookup_pair_by test l → FindsPair test l r
-  finds_pair r e = record {
-    pair = e;
-    found = ap is_some e ∙ is_some_lookup_pair_by test l;
-    value = ap (option_map (λ p. p.1)) e ∙ value_of_pair_by test l;
-  }
+  finds_pair r e = grind (arith, is_some_lookup_pair_by, value_of_pair_by)
 
   module _ (eq : K → K → Bool) (o : IsEquivalence eq) (respects : IsKeyTest eq test) (m : List (K × V)) where
     len_by : TakesFirst l m (λ p. test p.0) → length m + (if is_some (lookup_by test l) then 1 else 0) ≡ length l
@@ -44,6 +40,9 @@ module _ {K V : Type 0} (l m : List (K × V)) where
   forgets_index i p at moved test eq d respects o found =
       forgets_key p moved test eq d respects o ∙ ap (λ b. cond b None (lookup_by test l)) (key_passes eq o test respects l i p found at)
 
+  absent_left : (p : K × V) → IsPermutation l (p ∷ m) → (test : K → Bool) → lookup_by test l ≡ None → lookup_by test m ≡ None
+  absent_left p moved test absent = grind (arith, (matches_rearranged test l (p ∷ m) moved), (is_some_lookup_by test l), (is_some_lookup_by test (p ∷ m)))
+
   pub removes_at : (i : ℕ) (p : K × V) → m ≡ remove l i → slice_get l i ≡ Some p → RemovesAt i l p m
   removes_at i p e at =
       let moved = (taken_by_shift l m i p e at).1 in
@@ -52,6 +51,7 @@ module _ {K V : Type 0} (l m : List (K × V)) where
         entries = e;
         lookups = forgets_key p moved;
         gone = forgets_index i p at moved;
+        absent = absent_left p moved;
         distinct = λ eq d. subst (HasDistinctKeys eq) (sym e) (distinct_keys_remove eq l i d);
         len = one_less l m p moved;
         indices = shifts_indices l m i e;
@@ -65,18 +65,21 @@ module _ {K V : Type 0} (l m : List (K × V)) where
         entries = e;
         lookups = forgets_key p moved;
         gone = forgets_index i p at moved;
+        absent = absent_left p moved;
         distinct = λ eq o d. IsDistinct-tail eq p.0 _ (distinct_keys_rearranged eq o l (p ∷ m) moved d);
         len = one_less l m p moved;
       }
 
   pub removes_last : (r : Option (K × V)) → m ≡ take (length l - 1) l → l ≡ m ++ option_to_list r → RemovesLast l r m
-  removes_last r front parts = record {
-    pair = last_read l m r front parts;
-    front = keeps_front_of (length l - 1) l m front;
-    removal = key r parts;
-    len = len_popped l m r parts;
-  }
-    where
-      key : (last : Option (K × V)) → l ≡ m ++ option_to_list last → IfSome last (λ p. ForgetsKey p.0 l m)
-      key None f = tt
-      key (Some p) f = forgets_key p (last_taken l m p f)
+  removes_last r front parts = grind (arith, last_read, keeps_front_of, len_popped, forgets_key, last_taken)
+
+  pub splits_at : (i : ℕ) (r : List (K × V)) → m ≡ take i l → r ≡ drop i l → SplitsAt i l m r
+  splits_at i r e f =
+      let whole : m ++ r ≡ l = (λ t. e t ++ f t) ∙ take-append-drop i l in
+      record {
+        front = keeps_front_of i l m e;
+        part = f;
+        whole = whole;
+        part_lookups = λ test. sym (ap (lookup_by test) whole) ∙ lookup_by_append test m r;
+        part_keys = keys_of_parts i l m r e f;
+      }

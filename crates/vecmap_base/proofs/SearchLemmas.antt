@@ -26,8 +26,7 @@ no_step_past half step true by = omega (arith, by)
 no_step_past half step false by = omega (arith, by)
 
 pub no_three_past : (n step : ℕ) (a b c : Bool) → step ≡ (if a then n else 0) + (if b then n else 0) + (if c then n else 0) → step ≤ 3 * n
-no_three_past n step a b c by =
-    omega (arith, by, no_step_past n (if a then n else 0) a refl, no_step_past n (if b then n else 0) b refl, no_step_past n (if c then n else 0) c refl)
+no_three_past n step a b c by = grind (arith, no_step_past)
 
 -- Half of a power of two, which is more than 1, is a power of two.
 pub halved : (size k : ℕ) → size ≡ 2 ^ k → 1 < size → ((j : ℕ) × (size / 2 ≡ 2 ^ j)) × (size ≡ size / 2 + size / 2)

@@ -1,6 +1,6 @@
 -- A list without one of its items, wherever the items after it go: what removals that shift and that swap share.
 use Rattle.std.specs.{List.list_any, List.Sorted.IsPermutation, List.swap_remove, Option.option_map_or, Option.option_to_list}
-use Rattle.std.proofs.Common.{◌≡◌, ◌∙◌, ◌+◌, ◌-◌, ◌++◌, ◌<◌, ◌⊎◌, ℕ, suc, Bool, true, false, List, [], ◌∷◌, None, Option, Some, ap, arith, drop, if◌then◌else◌, inl, inr, is_some, length, min, position, refl, remove, slice_get, sym, subst, take, take_at}
+use Rattle.std.proofs.Common.{◌≡◌, ◌∙◌, ◌+◌, ◌-◌, ◌++◌, ◌<◌, ◌⊎◌, ℕ, Bool, true, false, List, [], ◌∷◌, None, Option, Some, ap, arith, if◌then◌else◌, inl, inr, is_some, length, min, position, refl, remove, slice_get, sym, subst, take, take_at}
 use Rattle.std.proofs.lemmas.List.{append-nil, length-take, length-take-le, take-set-le, take-take}
 use Rattle.std.proofs.lemmas.List.Sorted.{IsPermutation-append_comm, IsPermutation-remove, IsPermutation-swap_remove, length_permutation}
 use Rattle.std.proofs.lemmas.Option.{get_or_from_slice_get, slice_get_within}
@@ -13,21 +13,13 @@ module _ {T : Type 0} (s r : List T) where
   TakesAt i x = (slice_get s i ≡ Some x) × IsPermutation s (x ∷ r) × (take i r ≡ take i s)
 
   pub taken_by_shift : (i : ℕ) (x : T) → r ≡ remove s i → slice_get s i ≡ Some x → TakesAt i x
-  taken_by_shift i x e at =
-      let within = slice_get_within s i x at in (
-        at,
-        subst (λ l. IsPermutation s (x ∷ l)) (sym e) (IsPermutation-remove s i x within (sym (get_or_from_slice_get s i x x at))),
-        ap (take i) e ∙ take_at (take i s) (drop (suc i) s) i (length-take-le i s (omega (arith, within))),
-      )
+  taken_by_shift i x e at = grind (arith, slice_get_within, IsPermutation-remove, get_or_from_slice_get, take_at, length-take-le)
 
   front_of_swapped : (i : ℕ) (x : T) → i < length s → take i (swap_remove s i x) ≡ take i s
   front_of_swapped i x l = grind (arith, take-take, take-set-le)
 
   pub taken_by_swap : (i : ℕ) (x : T) → r ≡ swap_without s i → slice_get s i ≡ Some x → TakesAt i x
-  taken_by_swap i x e at =
-      let within = slice_get_within s i x at in
-      let left : r ≡ swap_remove s i x = e ∙ ap (λ found. option_map_or (λ y. swap_remove s i y) found s) at in
-      (at, subst (λ l. IsPermutation s (x ∷ l)) (sym left) (IsPermutation-swap_remove s i x within (sym (get_or_from_slice_get s i x x at))), ap (take i) left ∙ front_of_swapped i x within)
+  taken_by_swap i x e at = grind (arith, slice_get_within, IsPermutation-swap_remove, get_or_from_slice_get, front_of_swapped)
 
   pub last_taken : (x : T) → s ≡ r ++ x ∷ [] → IsPermutation s (x ∷ r)
   last_taken x e = subst (λ l. IsPermutation l (x ∷ r)) (sym e) (IsPermutation-append_comm r (x ∷ []))

@@ -1,15 +1,14 @@
 -- What is left of a list of pairs if a closure is called for each pair, in order, and writes the value.
 use Rattle.std.specs.{Fn.Mut, Borrow.{Bor, MutBor}, List.All, Map.keys_of}
-use Rattle.std.specs.Prelude.{◌≡◌, List, [], ◌∷◌, ◌++◌, if◌then◌else◌, map, ⊤, Result, Ok, Err}
-use Rattle.std.proofs.{Common.{arith, ap, subst, sym, ◌∙◌}, lemmas.List.map-append, lemmas.List.Elements.{All-head, All-tail}}
-use Rattle.vecmap_base.specs.{Asked.CallableOnEach, Updated.{AlwaysComputes, Computes, Keeping, StoppedAt, Updated, WritesValueAt}}
-use Rattle.vecmap_base.proofs.KeptLemmas.{written_in_state, written_while}
+use Rattle.std.specs.Prelude.{◌≡◌, List, [], ◌∷◌, ◌++◌, map, ⊤, Result, Ok, Err}
+use Rattle.std.proofs.{Common.{arith, ap, subst, ◌∙◌}, lemmas.List.map-append, lemmas.List.Elements.{All-head, All-tail}}
+use Rattle.vecmap_base.specs.{Asked.CallableOnEach, Updated.{AlwaysComputes, Computes, Keeping, StoppedAt, Updated, UpdatesPairs, WritesValueAt}, Pairs.lookup_by}
+use Rattle.vecmap_base.proofs.{KeptLemmas.{written_in_state, written_while}, PairsLemmas.{AtIndices.keeps_indices, Indices.lookup_by_map_values}}
 
 module _ {F X : Type 0} (R : F → X → X → F → Type 0) where
   -- If the closure stays in its state, each item is what it writes in that state.
   pub computed : (f : F) (l m : List X) (g : F) → Updated R f l m g → (h : X → X) → Computes R f h → m ≡ map h l
-  computed f l m g k h told =
-      written_in_state (Keeping R) f g l m h (λ x b y w call. let r = told x y w call.0 in (call.1, r.0, r.1)) k
+  computed f l m g k h told = grind (arith, written_in_state)
 
   -- The same if its state may change, but not what it writes.
   pub computed_always : (f : F) (l m : List X) (g : F) → Updated R f l m g → (h : X → X) → AlwaysComputes R h → m ≡ map h l
@@ -31,15 +30,21 @@ module _ {F K V : Type 0} (R : F → K × V → K × V → F → Type 0) (same :
   keys_updated f [] m g k = grind (arith)
   keys_updated f (p ∷ ps) m g k = grind (arith, (keys_updated k.2 ps k.3 g k.5))
 
+  pub updates_pairs : (f : F) (l m : List (K × V)) → ((g : F) × Updated R f l m g) → UpdatesPairs R f l m
+  updates_pairs f l m u = record {
+    updated = u;
+    written = computed R f l m u.0 u.1;
+    written_in_any_state = computed_always R f l m u.0 u.1;
+    lookups = λ h told test. ap (lookup_by test) (computed R f l m u.0 u.1 (λ p. (p.0, h p.1)) told) ∙ lookup_by_map_values h test l;
+    keys = keeps_indices l m (keys_updated f l m u.0 u.1);
+  }
+
 module _ {F X S : Type 0} (R : F → X → X → F → Type 0) (Holds : F → Type 0) (view : X → S) (h : S → S) where
   -- If each call takes what `view` sees of the item to `h` of it, so do all calls. A view of a vector is the list of
   -- its items, since its capacity may change too. `Holds` is an invariant of the closure's states.
   pub viewed_while : ((f : F) (x y : X) (g : F) → Holds f → R f x y g → (view y ≡ h (view x)) × Holds g) → (f : F) (l m : List X) (g : F) → Holds f → Updated R f l m g → (map view m ≡ map h (map view l)) × Holds g
-  viewed_while told f [] m g holds k = (ap (map view) k.0, subst Holds (sym k.1) holds)
-  viewed_while told f (x ∷ xs) m g holds k =
-      let one = told f x k.1 k.2 holds k.4.0 in
-      let rest = viewed_while told k.2 xs k.3 g one.1 k.5 in
-      (ap (map view) k.6 ∙ (λ i. map view (if k.4.1 i then k.1 ∷ k.3 else k.3)) ∙ (λ i. one.0 i ∷ rest.0 i), rest.1)
+  viewed_while told f [] m g holds k = grind (arith)
+  viewed_while told f (x ∷ xs) m g holds k = grind (arith, (viewed_while told k.2 xs k.3 g))
 
 module _ {F K V E : Type 0} (c : Mut F (Bor K × (MutBor V × Unit {0})) (Result (Unit {0}) E × (MutBor V × Unit {0}))) where
   -- The keys stay if a call fails.

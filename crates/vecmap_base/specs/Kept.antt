@@ -1,7 +1,7 @@
 -- What is left of a list if a closure is called for each item, in order, and decides which items stay.
-use Rattle.std.specs.Prelude.{◌≡◌, ℕ, ◌≤◌, Bool, true, List, [], ◌∷◌, ◌++◌, None, Option, Some, drop, filter, if◌then◌else◌, length, not, take}
-use Rattle.std.specs.List.{FoldsTo}
-use Rattle.vecmap_base.specs.{Asked.SomeCall, Pairs.lookup_by}
+use Rattle.std.specs.Prelude.{◌≡◌, ℕ, ◌≤◌, Bool, true, List, [], ◌∷◌, None, Option, Some, drop, false, filter, if◌then◌else◌, length, not, take}
+use Rattle.std.specs.{Map.IsKeyTest, Option.option_and_then}
+use Rattle.vecmap_base.specs.{Pairs.{HasDistinctKeys, lookup_by}}
 
 -- An item stays if the call at it returns `true`, as the call leaves it.
 -- Example: every second of `[1,2,3,4]`: `[2,4]`.
@@ -39,6 +39,20 @@ module _ {F K V : Type 0} (R : F → K × V → Bool → K × V → F → Type 0
     pub filters : (keep : K × V → Bool) → TestsItems R f keep → m ≡ filter keep l
     pub same : (test : K → Bool) → lookup_by test l ≡ None → ReturnsAtKey f (λ k. not (test k)) true → KeepsKeys → m ≡ l
 
+  -- Example: of a closure that keeps the values above 5: from `[(1,7), (2,4)]` to `[(1,7)]`.
+  -- The closure in the state `f`, which writes no key, leaves the list `m` of `l`.
+  pub record RetainsPairs (f : F) (l m : List (K × V)) : Type 0 where
+    pub retained : (g : F) × Kept R f l m g
+    -- What lookups find if what the closure does depends on the value alone.
+    pub lookups : (h : V → Option V) → FiltersValues f h → (test : K → Bool) (eq : K → K → Bool) → HasDistinctKeys eq l → IsKeyTest eq test → lookup_by test m ≡ option_and_then h (lookup_by test l)
+    -- What a query finds if the closure returns the same at each key that it matches: what it found, or nothing.
+    pub selected : (test : K → Bool) (kept : Bool) → ReturnsAtKey f test kept → lookup_by test m ≡ (if kept then lookup_by test l else None)
+    pub stays : (test : K → Bool) → ReturnsAtKey f test true → lookup_by test m ≡ lookup_by test l
+    pub gone : (test : K → Bool) → ReturnsAtKey f test false → lookup_by test m ≡ None
+    pub distinct : (eq : K → K → Bool) → HasDistinctKeys eq l → HasDistinctKeys eq m
+    -- How many pairs are left, and which if the closure only tests them.
+    pub left : Retains f l m
+
 module _ {F X : Type 0} (R : F → X → Bool → X → F → Type 0) where
   -- Example: of a closure that sets each value to 0: `h` of `(1,5)` is `(1,0)`.
   -- Each call of the closure in the state `f` returns `true`, writes `h` of the item and leaves that state.
@@ -56,5 +70,4 @@ module _ {F X : Type 0} (R : F → X → Bool → X → F → Type 0) where
     pub bound : k ≤ i
     pub len : length ys ≡ length xs
     pub rest : drop i ys ≡ drop i xs
-    pub calls : FoldsTo (SomeCall R) f0 (take i xs) f
-    pub kept : (m : List X) (g : F) → Kept R f (drop i xs) m g → Kept R f0 xs (take k ys ++ m) g
+    pub run : Kept R f0 (take i xs) (take k ys) f

@@ -1,9 +1,9 @@
 -- What lookups find after a change of a list of pairs. `eq` is the `==` of keys.
-use Rattle.std.specs.Prelude.{◌≡◌, ◌+◌, ◌<◌, ◌≤◌, ℕ, Bool, IsTrue, List, None, Option, Some, cond, false, is_some, length, min, position, slice_get, slice_set, take, true}
+use Rattle.std.specs.Prelude.{◌≡◌, ◌++◌, [], ◌+◌, ◌<◌, ◌≤◌, ℕ, Bool, IsSome, IsTrue, List, None, Option, Some, cond, false, is_some, length, min, position, slice_get, slice_set, take, true}
 use Rattle.std.specs.{List.list_any, List.Sorted.IsPermutation, Option.option_or, Cmp.IsEquivalence}
 use Rattle.std.specs.Set.{is_member, KeepsOthers as KeepsOtherItems}
-use Rattle.std.specs.Map.{IsKeyTest, KeepsOthers, keys_of, values_of}
-use Rattle.vecmap_base.specs.{Equality.has_same_counts, Pairs.{HasDistinctKeys, index_by, lookup, lookup_by}}
+use Rattle.std.specs.Map.{IsKeyTest, KeepsOthers, keys_of, set_value, values_of}
+use Rattle.vecmap_base.specs.{Equality.has_same_counts, Indices.KeepsIndices, Pairs.{HasDistinctKeys, index_by, lookup, lookup_by, puts}}
 
 module _ {K V : Type 0} (eq : K → K → Bool) where
   -- Example: from `[(1,a)]` to `[(1,a), (2,b)]` for the key 2: b.
@@ -15,10 +15,6 @@ module _ {K V : Type 0} (eq : K → K → Bool) where
     pub queries : KeepsOthers eq test l m
     pub distinct : HasDistinctKeys eq l → HasDistinctKeys eq m
     pub gone : w ≡ None → index_by test m ≡ None
-
-  -- The list `m` has `w` at the key `k`, and at each other key what `l` has.
-  abbrev pub Updates : List (K × V) → K → List (K × V) → Option V → Type 0
-  Updates l k m w = UpdatesBy (eq k) l m w
 
   -- Example: from `[(1,a), (2,b)]` to `[(2,b), (1,a)]`.
   -- Each key, and each query that matches a key and its equals alone, finds in the list `m` what it finds in `l`.
@@ -64,13 +60,36 @@ module _ {K V : Type 0} where
     pub distinct : (eq : K → K → Bool) → HasDistinctKeys eq l → HasDistinctKeys eq m
 
   -- Example: from `[(1,a)]`, with `[(1,b), (2,c)]`, to `[(1,b), (2,c)]`.
-  -- If the keys of `pairs` are distinct, each key has in the list `m` its value in `pairs`, or else its value in `l`.
+  -- The list `m` is the list `l` after insertions of `pairs`. If the keys of `pairs` are distinct, each key has its value in
+  -- `pairs`, or else its value in `l`.
   pub record Joins (eq : K → K → Bool) (l pairs m : List (K × V)) : Type 0 where
+    pub entries : m ≡ puts eq l pairs
+    -- If all keys of both are distinct, `pairs` is appended. `whole` is what a split has divided.
+    pub joined : (whole : List (K × V)) → l ++ pairs ≡ whole → HasDistinctKeys eq whole → m ≡ whole
     pub lookups : HasDistinctKeys eq pairs → (q : K) → lookup eq m q ≡ option_or (lookup eq pairs q) (lookup eq l q)
     pub distinct : HasDistinctKeys eq l → HasDistinctKeys eq m
     pub indices : (test : K → Bool) (i : ℕ) → index_by test l ≡ Some i → index_by test m ≡ Some i
     pub len : length m ≤ length l + length pairs
+    pub at_least : length l ≤ length m
     pub not_empty : 0 < length pairs → 0 < length m
+
+  -- Example: of `[(1,a), (2,b), (1,c)]`: `[(1,c), (2,b)]`.
+  -- The list `m` is what insertions of `pairs` make. If their keys are distinct, it is `pairs`.
+  pub record MakesPairs (eq : K → K → Bool) (pairs m : List (K × V)) : Type 0 where
+    pub entries : m ≡ puts eq [] pairs
+    pub as_given : HasDistinctKeys eq pairs → m ≡ pairs
+    pub lookups : HasDistinctKeys eq pairs → (q : K) → lookup eq m q ≡ lookup eq pairs q
+    pub distinct : HasDistinctKeys eq m
+    pub len : length m ≤ length pairs
+    pub not_empty : 0 < length pairs → 0 < length m
+
+  -- Example: to the value c, on `[(1,a), (2,b)]` for the query 1: `[(1,c), (2,b)]`.
+  -- A write of a value at the match of a query, in the list `l`.
+  pub record WritesBy (eq : K → K → Bool) (test : K → Bool) (l : List (K × V)) : Type 0 where
+    -- What lookups find: the value for the key, and for each other key what they found.
+    pub updates : (v : V) → IsSome (lookup_by test l) → UpdatesBy eq test l (set_value test l v) (Some v)
+    -- The keys stay, each at its index.
+    pub keys : (v : V) → KeepsIndices l (set_value test l v)
 
 -- Example: from `[1]` to `[1, 2]` for 2: true.
 -- The list `r` has elements that pass the test exactly if `b` is true, and each other element exactly if `s` has it.

@@ -1,7 +1,7 @@
--- What the removal of one pair leaves of a list of pairs, one record for each kind of removal. `eq` is the `==` of keys, and
--- a test is what a query does with a key.
-use Rattle.std.specs.Prelude.{◌≡◌, ◌+◌, ◌-◌, ℕ, Bool, IfSome, List, None, Option, Some, cond, if◌then◌else◌, is_some, length, option_map, remove, slice_get}
-use Rattle.std.specs.{Cmp.IsEquivalence, Map.IsKeyTest}
+-- What the removal of one pair, and a split, leaves of a list of pairs, one record for each kind of removal. `eq` is the `==`
+-- of keys, and a test is what a query does with a key.
+use Rattle.std.specs.Prelude.{◌≡◌, ◌+◌, ◌++◌, ◌-◌, ℕ, Bool, IfSome, List, None, Option, Some, cond, drop, if◌then◌else◌, is_some, length, option_map, remove, slice_get}
+use Rattle.std.specs.{Cmp.IsEquivalence, Map.IsKeyTest, Map.keys_of, Option.option_or}
 use Rattle.vecmap_base.specs.{Indices.ShiftsIndices, Items.swap_without, Lookups.{KeepsFront, UpdatesBy}}
 use Rattle.vecmap_base.specs.Pairs.{HasDistinctKeys, index_by, lookup_by, lookup_pair_by, swap_without_by, without_by}
 
@@ -49,9 +49,10 @@ module _ {K V : Type 0} where
   pub record RemovesAt (i : ℕ) (l : List (K × V)) (p : K × V) (m : List (K × V)) : Type 0 where
     pub pair : slice_get l i ≡ Some p
     pub entries : m ≡ remove l i
-    -- What lookups find, by the removed key and by its index.
+    -- What lookups find, by the removed key and by its index, and by an absent key.
     pub lookups : ForgetsKey p.0 l m
     pub gone : ForgetsIndex i l m
+    pub absent : (test : K → Bool) → lookup_by test l ≡ None → lookup_by test m ≡ None
     pub distinct : (eq : K → K → Bool) → HasDistinctKeys eq l → HasDistinctKeys eq m
     pub len : length m + 1 ≡ length l
     -- At which indices the other keys are.
@@ -62,9 +63,10 @@ module _ {K V : Type 0} where
   pub record SwapRemovesAt (i : ℕ) (l : List (K × V)) (p : K × V) (m : List (K × V)) : Type 0 where
     pub pair : slice_get l i ≡ Some p
     pub entries : m ≡ swap_without l i
-    -- What lookups find, by the removed key and by its index.
+    -- What lookups find, by the removed key and by its index, and by an absent key.
     pub lookups : ForgetsKey p.0 l m
     pub gone : ForgetsIndex i l m
+    pub absent : (test : K → Bool) → lookup_by test l ≡ None → lookup_by test m ≡ None
     pub distinct : (eq : K → K → Bool) → IsEquivalence eq → HasDistinctKeys eq l → HasDistinctKeys eq m
     pub len : length m + 1 ≡ length l
 
@@ -77,3 +79,13 @@ module _ {K V : Type 0} where
     -- What lookups find by the removed key.
     pub removal : IfSome r (λ p. ForgetsKey p.0 l m)
     pub len : length m + (if is_some r then 1 else 0) ≡ length l
+
+  -- Example: `[(1,a)]` and `[(2,b)]`, of `[(1,a), (2,b)]` at the index 1.
+  -- The list `l` is split before the index `i`: the list `m` is the front, and the list `r` the rest.
+  pub record SplitsAt (i : ℕ) (l m r : List (K × V)) : Type 0 where
+    pub front : KeepsFront i l m
+    pub part : r ≡ drop i l
+    -- Both parts together: the list, what lookups find, and the keys.
+    pub whole : m ++ r ≡ l
+    pub part_lookups : (test : K → Bool) → lookup_by test l ≡ option_or (lookup_by test m) (lookup_by test r)
+    pub part_keys : keys_of m ++ keys_of r ≡ keys_of l

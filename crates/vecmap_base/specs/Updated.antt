@@ -1,7 +1,7 @@
 -- What a list of pairs is after a closure was called for each pair, in order, and wrote the value.
-use Rattle.std.specs.{Prelude.{◌≡◌, ℕ, Bool, true, List, ◌∷◌, ◌++◌, drop, length, take, Result, Ok, Err}, Borrow.{Bor, MutBor}}
-use Rattle.std.specs.Fn.{Called, Mut, Takes}
-use Rattle.vecmap_base.specs.{Asked.CallableOnEach, Kept.Kept}
+use Rattle.std.specs.{Prelude.{◌≡◌, ◌<◌, ℕ, Bool, true, IsSome, List, ◌∷◌, ◌++◌, Some, length, map, option_map, Result, Ok, Err}, Borrow.{Bor, MutBor}}
+use Rattle.std.specs.{Fn.{Called, Mut, Takes}, List.All, Map.values_of}
+use Rattle.vecmap_base.specs.{Asked.CallableOnEach, Indices.KeepsIndices, Kept.Kept, Pairs.{lookup_by, map_values, value_at}}
 
 module _ {F X : Type 0} (R : F → X → X → F → Type 0) where
   -- Calls that return nothing, seen as the calls of a retaining closure that keeps each item.
@@ -13,13 +13,6 @@ module _ {F X : Type 0} (R : F → X → X → F → Type 0) where
   abbrev pub Updated : F → List X → List X → F → Type 0
   Updated = Kept Keeping
 
-  -- The list `ys` has the items that were passed as the calls left them, and the others as they were.
-  -- The closure was called for the first `i` items of `xs`, in order, which took it from `f0` to `f`.
-  pub record UpdatedSoFar (f0 f : F) (xs ys : List X) (i : ℕ) : Type 0 where
-    pub len : length ys ≡ length xs
-    pub rest : drop i ys ≡ drop i xs
-    pub run : Updated f0 (take i xs) (take i ys) f
-
   -- Example: of a closure that adds 1 to the value, and of one that also counts its calls: `h` of `(1,5)` is `(1,6)`.
   -- Each call of the closure in the state `f` writes `h` of the item, and leaves that state.
   abbrev pub Computes : F → (X → X) → Type 0
@@ -28,6 +21,30 @@ module _ {F X : Type 0} (R : F → X → X → F → Type 0) where
   -- Each call of the closure, in any state, writes `h` of the item.
   abbrev pub AlwaysComputes : (X → X) → Type 0
   AlwaysComputes h = (f : F) (x y : X) (g : F) → R f x y g → y ≡ h x
+
+module _ {F K V : Type 0} (R : F → K × V → K × V → F → Type 0) where
+  -- Example: of a closure that adds 1 to each value: from `[(1,5), (2,6)]` to `[(1,6), (2,7)]`.
+  -- The closure in the state `f` was called for each pair of `l`, in order, and left the pairs as in the list `m`.
+  pub record UpdatesPairs (f : F) (l m : List (K × V)) : Type 0 where
+    -- Each pair is as its call left it, in the state that the calls before have left.
+    pub updated : (g : F) × Updated R f l m g
+    -- What is written if each call writes the same function of its pair, and what lookups find if it is one of the value.
+    pub written : (h : K × V → K × V) → Computes R f h → m ≡ map h l
+    pub written_in_any_state : (h : K × V → K × V) → AlwaysComputes R h → m ≡ map h l
+    pub lookups : (h : V → V) → Computes R f (λ pair. (pair.0, h pair.1)) → (test : K → Bool) → lookup_by test m ≡ option_map h (lookup_by test l)
+    -- The keys stay, each at its index.
+    pub keys : KeepsIndices l m
+
+-- Example: from `[(1,a), (2,b)]` to `[(1,c), (2,c)]` for the value c.
+-- The list `m` is the list `l` with `w` as each value.
+pub record SetsValues {K V : Type 0} (w : V) (l m : List (K × V)) : Type 0 where
+  pub entries : m ≡ map_values (λ _. w) l
+  -- What lookups find, and which values the list has.
+  pub lookups : (test : K → Bool) → IsSome (lookup_by test l) → lookup_by test m ≡ Some w
+  pub values : All (λ v. v ≡ w) (values_of m)
+  pub at : (i : ℕ) → i < length l → value_at m i ≡ Some w
+  -- The keys stay, each at its index.
+  pub keys : KeepsIndices l m
 
 module _ {F K V R : Type 0} (c : Mut F (Bor K × (MutBor V × Unit {0})) (R × (MutBor V × Unit {0}))) where
   -- The closure may be called at the pair `p`, with its value to write.

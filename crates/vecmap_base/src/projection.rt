@@ -3,7 +3,7 @@
 //! Each iterator with an exact length, except drains, is one of three types: [`IterOf`](crate::IterOf) yields
 //! references, [`IterMutOf`](crate::IterMutOf) mutable references, and [`IntoIterOf`](crate::IntoIterOf) values. The
 //! last type parameters of each are the type of the part and a projection, as `K` and `Key` in `Keys<'a, K, V>`, which
-//! is `IterOf<'a, (K, V), K, Key>`.
+//! is `IterOf<'a, (K, V), K, Key>`. With an associated type for the part, the iterators would be invariant.
 ghost use Rattle.std.specs.{Prelude.{◌≡◌}, Map.Iter.{deref, deref_pair, deref_pair_mut}};
 ghost use Rattle.vecmap_base.specs.Iterators.{deref_both_mut, deref_mut};
 

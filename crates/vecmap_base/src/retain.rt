@@ -1,10 +1,8 @@
 //! Functions that retain the items for which a closure returns `true`. Nothing is shifted, and one truncation at the
 //! end removes the others.
-ghost use Rattle.std.specs.{Prelude.{◌≡◌, ◌+◌, ◌≤◌, ◌&&◌, Bool, None, Option, if◌then◌else◌, length, vec_capacity}, Fn.TakesAt};
-ghost use Rattle.std.specs.{List.list_any, Map.IsKeyTest, Option.option_and_then};
+ghost use Rattle.std.specs.{Prelude.{◌≡◌, ◌+◌, ◌≤◌, ◌&&◌, Bool, length, vec_capacity}, Fn.TakesAt, List.list_any};
 ghost use Rattle.vecmap_base.specs.Asked.{CallableAtPair, CallableAtPairMut, CallableOnEach, CallsAtItem, CallsAtPair, CallsAtPairMut};
-ghost use Rattle.vecmap_base.specs.Kept.{FiltersValues, KeepsKeys, Kept, KeptSoFar, ReturnsAt, ReturnsAtKey};
-ghost use Rattle.vecmap_base.specs.Pairs.{HasDistinctKeys, lookup_by};
+ghost use Rattle.vecmap_base.specs.Kept.{KeepsKeys, Kept, KeptSoFar, RetainsPairs, ReturnsAt};
 
 /// Retains only the pairs for which `f` returns `true`, each with the value as `f` left it.
 ///
@@ -32,16 +30,7 @@ pub fn retain_pairs<K: Drop, V: Drop, F: FnMut(&K, &mut V) -> bool + Drop>(
 )
     requires callable { CallableOnEach (CallsAtPair F.FnMut)
         (CallableAtPair F.FnMut) f pairs.old.items }
-    ensures lookups { (h : V → Option V) → FiltersValues (CallsAtPair F.FnMut) f h
-        → (test : K → Bool) (eq : K → K → Bool) → HasDistinctKeys eq pairs.old.items
-        → IsKeyTest eq test
-        → lookup_by test pairs.new.items ≡ option_and_then h (lookup_by test pairs.old.items) }
-    ensures selected { (test : K → Bool) (kept : Bool)
-        → ReturnsAtKey (CallsAtPair F.FnMut) f test kept → lookup_by test pairs.new.items
-        ≡ (if kept then lookup_by test pairs.old.items else None) }
-    ensures distinct { (eq : K → K → Bool) → HasDistinctKeys eq pairs.old.items
-        → HasDistinctKeys eq pairs.new.items }
-    ensures retained { (g : F) × Kept (CallsAtPair F.FnMut) f pairs.old.items pairs.new.items g }
+    ensures selection { RetainsPairs (CallsAtPair F.FnMut) f pairs.old.items pairs.new.items }
     ensures capacity { vec_capacity pairs.new ≡ vec_capacity pairs.old }
 {
     retain::<_, PairForm, _>(pairs, f);
@@ -49,8 +38,7 @@ pub fn retain_pairs<K: Drop, V: Drop, F: FnMut(&K, &mut V) -> bool + Drop>(
 
 /// Like [`retain_pairs`], but `f` can also write the key.
 ///
-/// If no call of `f` writes a key, distinct keys stay distinct. If what `f` does then also depends on the value alone, and
-/// `f` only reads what it captures, a proof knows what lookups find afterwards (`lookups`).
+/// If no call of `f` writes a key, the same is proved as of [`retain_pairs`].
 ///
 /// # Preconditions
 ///
@@ -69,13 +57,9 @@ pub fn retain_pairs_mut<K: Drop, V: Drop, F: FnMut(&mut K, &mut V) -> bool + Dro
 )
     requires callable { CallableOnEach (CallsAtPairMut F.FnMut)
         (CallableAtPairMut F.FnMut) f pairs.old.items }
-    ensures lookups { (h : V → Option V) → KeepsKeys (CallsAtPairMut F.FnMut)
-        → FiltersValues (CallsAtPairMut F.FnMut) f h → (test : K → Bool) (eq : K → K → Bool)
-        → HasDistinctKeys eq pairs.old.items → IsKeyTest eq test
-        → lookup_by test pairs.new.items ≡ option_and_then h (lookup_by test pairs.old.items) }
-    ensures distinct { KeepsKeys (CallsAtPairMut F.FnMut) → (eq : K → K → Bool)
-        → HasDistinctKeys eq pairs.old.items → HasDistinctKeys eq pairs.new.items }
     ensures retained { (g : F) × Kept (CallsAtPairMut F.FnMut) f pairs.old.items pairs.new.items g }
+    ensures selection { KeepsKeys (CallsAtPairMut F.FnMut)
+        → RetainsPairs (CallsAtPairMut F.FnMut) f pairs.old.items pairs.new.items }
     ensures capacity { vec_capacity pairs.new ≡ vec_capacity pairs.old }
 {
     retain::<_, PairMutForm, _>(pairs, f);

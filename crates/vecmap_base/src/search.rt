@@ -4,6 +4,7 @@
 //! are equal. The last call is for the one item that is left. In between, a call halves the part, or three calls
 //! quarter it. Quarters are faster if what is compared has at most 8 bytes: the three calls do not depend on each
 //! other. How often the closure is called depends on the number of items and on this size, and not on what it returns.
+//! It takes an index: the borrow checker does not cover one that passes an item on to a closure that may keep it.
 ghost use Rattle.std.specs.{Prelude.{◌≡◌, ℕ, ◌+◌, ◌^◌, ◌<◌, ◌≤◌, Bool, false, if◌then◌else◌, length, true}, List.{All, HoldsAt}};
 ghost use Rattle.std.specs.List.Sorted.{IsBinarySearchResult, IsPartitionPoint, IsPartitionedBy, IsSearchInRange};
 ghost use Rattle.std.specs.declared.cmp.Ordering.{Ordering};

@@ -1,7 +1,6 @@
 //! The function that writes each value of a slice of pairs by a closure that may fail.
-ghost use Rattle.std.specs.{Prelude.{◌≡◌, Bool, IfErr, Ok, OnOk, length, map}, Map.keys_of, Option.option_map};
-ghost use Rattle.vecmap_base.specs.Pairs.{lookup_by};
-ghost use Rattle.vecmap_base.specs.Updated.{AlwaysComputes, CallableAtValue, CallableOnValues, Computes, StoppedAt, Updated, WritesValueAt};
+ghost use Rattle.std.specs.Prelude.{IfErr, Ok, OnOk};
+ghost use Rattle.vecmap_base.specs.{Indices.KeepsIndices, Updated.{CallableAtValue, CallableOnValues, StoppedAt, UpdatesPairs, WritesValueAt}};
 
 /// Like [`update_pairs`](crate::update_pairs), but stops at the first `Err` that `f` returns, and leaves the values
 /// written so far.
@@ -38,20 +37,10 @@ pub fn try_update_pairs<K, V, E, F: FnMut(&K, &mut V) -> Result<(), E> + Drop>(
     mut f: F,
 ) -> Result<(), E>
     requires callable { CallableOnValues F.FnMut (Ok tt) f pairs.old }
-    ensures keys { keys_of pairs.new ≡ keys_of pairs.old }
-    ensures len { length pairs.new ≡ length pairs.old }
-    ensures written { (h : K × V → K × V) → Computes (WritesValueAt F.FnMut (Ok tt)) f h
-        → OnOk result (pairs.new ≡ map h pairs.old) }
-    ensures written_in_any_state { (h : K × V → K × V)
-        → AlwaysComputes (WritesValueAt F.FnMut (Ok tt)) h
-        → OnOk result (pairs.new ≡ map h pairs.old) }
-    ensures lookups { (h : V → V)
-        → Computes (WritesValueAt F.FnMut (Ok tt)) f (λ pair. (pair.0, h pair.1))
-        → (test : K → Bool)
-        → OnOk result (lookup_by test pairs.new ≡ option_map h (lookup_by test pairs.old)) }
-    ensures ok { OnOk result ((g : F) × Updated
-        (WritesValueAt F.FnMut (Ok tt)) f pairs.old pairs.new g) }
+    ensures ok { OnOk result (UpdatesPairs
+        (WritesValueAt F.FnMut (Ok tt)) f pairs.old pairs.new) }
     ensures err { IfErr result (λ e. StoppedAt F.FnMut e f pairs.old pairs.new) }
+    ensures keys { KeepsIndices pairs.old pairs.new }
 {
     for pair in pairs.iter_mut() {
         match try_value(&mut f, pair) {

@@ -1,7 +1,5 @@
 //! The function that writes each value of a slice of pairs by a closure.
-ghost use Rattle.std.specs.{Prelude.{◌≡◌, Bool, length, map}, Map.keys_of, Option.option_map};
-ghost use Rattle.vecmap_base.specs.Pairs.{lookup_by};
-ghost use Rattle.vecmap_base.specs.Updated.{AlwaysComputes, CallableAtValue, CallableOnValues, Computes, Updated, WritesValueAt};
+ghost use Rattle.vecmap_base.specs.Updated.{CallableAtValue, CallableOnValues, UpdatesPairs, WritesValueAt};
 
 /// Calls `f` with each key and a mutable reference to its value, in order.
 ///
@@ -24,16 +22,7 @@ ghost use Rattle.vecmap_base.specs.Updated.{AlwaysComputes, CallableAtValue, Cal
 /// ```
 pub fn update_pairs<K, V, F: FnMut(&K, &mut V) + Drop>(pairs: &mut [(K, V)], mut f: F)
     requires callable { CallableOnValues F.FnMut tt f pairs.old }
-    ensures keys { keys_of pairs.new ≡ keys_of pairs.old }
-    ensures len { length pairs.new ≡ length pairs.old }
-    ensures written { (h : K × V → K × V) → Computes (WritesValueAt F.FnMut tt) f h
-        → pairs.new ≡ map h pairs.old }
-    ensures written_in_any_state { (h : K × V → K × V) → AlwaysComputes (WritesValueAt F.FnMut tt) h
-        → pairs.new ≡ map h pairs.old }
-    ensures lookups { (h : V → V)
-        → Computes (WritesValueAt F.FnMut tt) f (λ pair. (pair.0, h pair.1)) → (test : K → Bool)
-        → lookup_by test pairs.new ≡ option_map h (lookup_by test pairs.old) }
-    ensures updated { (g : F) × Updated (WritesValueAt F.FnMut tt) f pairs.old pairs.new g }
+    ensures update { UpdatesPairs (WritesValueAt F.FnMut tt) f pairs.old pairs.new }
 {
     for pair in pairs.iter_mut() {
         write_value(&mut f, pair);

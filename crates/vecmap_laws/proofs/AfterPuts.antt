@@ -4,7 +4,7 @@ use Rattle.std.specs.{Cmp.IsEquivalence, List.list_any, Map.keys_of, Option.opti
 use Rattle.std.proofs.Common.{◌≡◌, ◌<◌, ◌+◌, ℕ, Bool, true, List, [], ◌∷◌, ◌++◌, Option, None, Some, if◌then◌else◌, is_some, length, slice_get, unwrap_or, refl, sym, ap, ◌∙◌, arith, length-append, true≢false}
 use Rattle.std.proofs.{lemmas.{List.length-map, Map.Made.is_some-lookup, Option.slice_get-map}, lemmas.Map.lookup-remove_entry}
 use Rattle.vecmap_base.specs.Pairs.{HasDistinctKeys, index_of, index_or_length, lookup, put, put_key, puts, value_at, without_key}
-use Rattle.vecmap_base.proofs.{PairsLemmas.Keys.{index_of_is, keys_of_put}, PairsLemmas.Lookups.updates_put, PairsLemmas.Parts.joins_puts}
+use Rattle.vecmap_base.proofs.{PairsLemmas.Keys.{index_of_is, keys_of_put}, PairsLemmas.Lookups.updates_put, PairsLemmas.Parts.joins_of_puts}
 use Rattle.vecmap_base.proofs.PairsLemmas.{ByIndex.lookup_by_index, ByIndex.put_by_index, Indices.is_some_index_of}
 use Rattle.vecmap_laws.proofs.{Indices.index_of_none, ItemIndices.{item_index_add, item_index_congr, item_index_own}, Puts.put_stored}
 use Rattle.vecmap_laws.proofs.{ItemRemovals.without_item_absent, Keys.keys_of_without_key, Values.length_with_value}
@@ -80,4 +80,4 @@ module _ {K V : Type 0} (eq : K → K → Bool) where
 
     -- If the keys of the inserted pairs are distinct, each inserted pair takes precedence over the pairs of `l`.
     pub lookup_puts_distinct : (l ps : List (K × V)) → HasDistinctKeys eq ps → (q : K) → lookup eq (puts eq l ps) q ≡ option_or (lookup eq ps q) (lookup eq l q)
-    lookup_puts_distinct l ps = (joins_puts eq o l ps).lookups
+    lookup_puts_distinct l ps = (joins_of_puts eq o l ps (puts eq l ps) refl).lookups

@@ -4,27 +4,28 @@ use Rattle.std.specs.{Set.is_member, Cmp.IsEquivalence, List.IsDistinct}
 use Rattle.std.proofs.Common.{◌≡◌, ◌+◌, ◌∙◌, Bool, true, ◌&&◌, ◌||◌, List, [], arith, length, nat_lt, not}
 use Rattle.vecmap_base.specs.{Equality.has_same_items, Items.adds, Items.both}
 use Rattle.vecmap_base.proofs.EqualityLemmas.{Sets.set_equality_laws}
-use Rattle.vecmap_set.specs.{Lazy.longer, Lazy.not_longer, Lazy.not_shorter, Lazy.shorter, Operators.symmetric_difference_of, Operators.union_of}
+use Rattle.vecmap_set.specs.Lazy.{Filtered, Parts, filtered_of, filtered_of_shorter, filtered_rest, longer_first, union_parts, union_rest}
+use Rattle.vecmap_set.specs.Operators.{symmetric_difference_of, union_of}
 use Rattle.vecmap_laws.proofs.{ItemMembers.is_member_adds, SetRelations.{both_turned, length_both_turned, length_union, union_turned}}
 use Rattle.vecmap_laws.specs.Algebra.{lazy_intersection, lazy_union}
 pub use Rattle.vecmap_set.proofs.OperatorLemmas.{is_member_symmetric_difference}
 
-module _ {T : Type 0} (a b : List T) (P : List T → List T → Type 0) where
+module _ {T : Type 0} (a b : List T) where
   -- What holds of two lists in either order holds of the shorter and the other.
-  pub on_shorter : P b a → P a b → P (shorter a b) (not_shorter a b)
-  on_shorter x y = grind (arith, nat_lt)
+  pub on_shorter : (P : Filtered T → Type 0) → P (filtered_of b a) → P (filtered_of a b) → P (filtered_of_shorter a b)
+  on_shorter P x y = grind (arith, nat_lt)
 
   -- It also holds of the longer and the other.
-  pub on_longer : P b a → P a b → P (longer a b) (not_longer a b)
-  on_longer x y = grind (arith, nat_lt)
+  pub on_longer : (P : Parts (List T) (Filtered T) → Type 0) → P (union_parts b a) → P (union_parts a b) → P (longer_first a b)
+  on_longer P x y = grind (arith, nat_lt)
 
 module _ {T : Type 0} (eq : T → T → Bool) (o : IsEquivalence eq) (a b : List T) where
   -- The lazy lists are equal, as sets, to those of the operators.
   pub lazy_intersection_is_both : has_same_items eq (lazy_intersection eq a b) (both eq a b) ≡ true
-  lazy_intersection_is_both = on_shorter a b (λ s t. has_same_items eq (both eq s t) (both eq a b) ≡ true) (both_turned eq o b a) ((set_equality_laws eq o).refl (both eq a b))
+  lazy_intersection_is_both = on_shorter a b (λ s. has_same_items eq (filtered_rest (is_member eq) s) (both eq a b) ≡ true) (both_turned eq o b a) ((set_equality_laws eq o).refl (both eq a b))
 
   pub lazy_union_is_union : has_same_items eq (lazy_union eq a b) (union_of eq a b) ≡ true
-  lazy_union_is_union = on_longer a b (λ s t. has_same_items eq (union_of eq s t) (union_of eq a b) ≡ true) (union_turned eq o b a) ((set_equality_laws eq o).refl (union_of eq a b))
+  lazy_union_is_union = on_longer a b (λ s. has_same_items eq (union_rest eq s) (union_of eq a b) ≡ true) (union_turned eq o b a) ((set_equality_laws eq o).refl (union_of eq a b))
 
 module _ {T : Type 0} (eq : T → T → Bool) (o : IsEquivalence eq) (a b : List T) where
   -- If k is equal to l, l to m, and n to m as sets, then k is equal to n.
@@ -45,10 +46,12 @@ module _ {T : Type 0} (eq : T → T → Bool) (o : IsEquivalence eq) (a b : List
   lengths_add = omega (arith, length_union eq o a b d e)
 
   length_lazy_intersection : length (lazy_intersection eq a b) ≡ length (both eq a b)
-  length_lazy_intersection = on_shorter a b (λ s t. length (both eq s t) ≡ length (both eq a b)) (length_both_turned eq o b a e d) (λ i. length (both eq a b))
+  length_lazy_intersection = on_shorter a b (λ s. length (filtered_rest (is_member eq) s) ≡ length (both eq a b)) (length_both_turned eq o b a e d) (λ i. length (both eq a b))
 
   length_lazy_union : length (lazy_union eq a b) ≡ length (union_of eq a b)
-  length_lazy_union = grind (arith, on_longer, length_union, length_both_turned)
+  length_lazy_union =
+      on_longer a b (λ s. length (union_rest eq s) ≡ length (union_of eq a b))
+      (omega (arith, length_union eq o a b d e, length_union eq o b a e d, length_both_turned eq o a b d e)) (λ i. length (union_of eq a b))
 
   pub lazy_lengths_add : length (lazy_intersection eq a b) + length (lazy_union eq a b) ≡ length a + length b
   lazy_lengths_add = omega (arith, length_lazy_intersection, length_lazy_union, lengths_add)

@@ -4,7 +4,7 @@ use Rattle.std.proofs.Common.{◌≡◌, ℕ, ◌-◌, Bool, false, List, Option
 use Rattle.std.proofs.lemmas.{List.take-map}
 use Rattle.vecmap_base.specs.{Items.without_item, Pairs.{HasDistinctKeys, index_of, put_at, puts, swap_without_key, with_value}}
 use Rattle.vecmap_base.proofs.{PairsLemmas.Keys.index_of_is, PairsLemmas.{Values.keys_of_with_value}, IndexLemmas.is_some_position}
-use Rattle.vecmap_base.proofs.{DistinctLemmas.Removals.{distinct_remove, distinct_take}, PairsLemmas.Parts.joins_puts}
+use Rattle.vecmap_base.proofs.{DistinctLemmas.Removals.{distinct_remove, distinct_take}, PairsLemmas.Parts.joins_of_puts}
 use Rattle.vecmap_laws.proofs.{DistinctAdditions.distinct_insert, ItemRemovals.without_item_absent, Keys.{keys_of_insert, keys_of_remove}}
 use Rattle.vecmap_laws.proofs.Puts.{put_at_absent, put_at_present}
 pub use Rattle.vecmap_base.proofs.PairsLemmas.Distinct.{distinct_keys_rearranged, distinct_keys_remove, distinct_keys_swap_without, distinct_keys_swap_without_by, distinct_keys_without, distinct_put}
@@ -22,7 +22,7 @@ module _ {K V : Type 0} (eq : K → K → Bool) where
     distinct_keys_swap_without_key l k = distinct_keys_swap_without_by eq o (eq k) l
 
     pub distinct_puts : (l ps : List (K × V)) → HasDistinctKeys eq l → HasDistinctKeys eq (puts eq l ps)
-    distinct_puts l ps = (joins_puts eq o l ps).distinct
+    distinct_puts l ps = (joins_of_puts eq o l ps (puts eq l ps) refl).distinct
 
     pub distinct_put_at : (l : List (K × V)) (i : ℕ) (k : K) (v : V) → HasDistinctKeys eq l → HasDistinctKeys eq (put_at eq l i k v)
     distinct_put_at l i k v d = by (index_of eq l k) refl

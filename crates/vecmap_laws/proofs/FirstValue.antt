@@ -1,10 +1,9 @@
 -- What is found after insertions of which the first value wins.
 use Rattle.std.proofs.Common.{arith, ◌≡◌, Bool, List, [], ◌∷◌, ◌++◌, None, Some, if◌then◌else◌, ap, refl, sym, unwrap_or, ◌∙◌}
-use Rattle.std.specs.{Cmp.IsEquivalence, Map.{IsKeyTest, keys_of}, Option.{option_and_then, option_or}}
+use Rattle.std.specs.{Cmp.IsEquivalence, Map.keys_of, Option.{option_and_then, option_or}}
 use Rattle.vecmap_base.proofs.{PairsLemmas.Keys.keys_of_put, PairsLemmas.ByIndex.lookup_by_index, PairsLemmas.Puts.put_absent}
-use Rattle.vecmap_laws.proofs.{AfterPuts.{lookup_put_any, option_or_none, put_same}, Lookups.lookup_congr, ItemQueries.tells_as}
-use Rattle.vecmap_laws.proofs.{Queries.lookup_put_other_query, Recursion.lookup_cons}
-use Rattle.vecmap_base.specs.{Items.adds, Pairs.{index_of, lookup, lookup_by, put, value_at}}
+use Rattle.vecmap_laws.proofs.{AfterPuts.{lookup_put_any, option_or_none, put_same}, Lookups.lookup_congr, Recursion.lookup_cons}
+use Rattle.vecmap_base.specs.{Items.adds, Pairs.{index_of, lookup, put, value_at}}
 use Rattle.vecmap_laws.specs.FirstValue.{put_new, puts_new}
 
 module _ {K V : Type 0} (eq : K → K → Bool) where
@@ -15,9 +14,6 @@ module _ {K V : Type 0} (eq : K → K → Bool) where
   -- A new pair is appended.
   pub put_new_absent : (l : List (K × V)) (k : K) (v : V) → index_of eq l k ≡ None → put_new eq l k v ≡ l ++ (k, v) ∷ []
   put_new_absent l k v e = ap (λ found. put eq l k (unwrap_or found v)) (lookup_by_index (eq k) l ∙ ap (option_and_then (value_at l)) e) ∙ put_absent eq l k v e
-
-  pub put_new_not_found : (l : List (K × V)) (k : K) (v : V) → lookup eq l k ≡ None → put_new eq l k v ≡ put eq l k v
-  put_new_not_found l k v e = ap (λ found. put eq l k (unwrap_or found v)) e
 
   pub keys_of_puts_new : (l ps : List (K × V)) → keys_of (puts_new eq l ps) ≡ adds eq (keys_of l) (keys_of ps)
   keys_of_puts_new l [] = refl
@@ -32,10 +28,6 @@ module _ {K V : Type 0} (eq : K → K → Bool) where
     -- A lookup finds the old value of its key, or else the inserted one.
     pub lookup_put_new : (l : List (K × V)) (k : K) (v : V) (q : K) → lookup eq (put_new eq l k v) q ≡ option_or (lookup eq l q) (if eq k q then Some v else None)
     lookup_put_new l k v q = grind (arith, lookup_put_any eq o l k (unwrap_or (lookup eq l k) v) q, lookup_congr eq o l k q)
-
-    -- The same of a query.
-    pub lookup_put_new_query : (test : K → Bool) → IsKeyTest eq test → (l : List (K × V)) (k : K) (v : V) → lookup_by test (put_new eq l k v) ≡ option_or (lookup_by test l) (if test k then Some v else None)
-    lookup_put_new_query test respects l k v = grind (arith, tells_as, lookup_put_new, lookup_put_other_query, option_or_none)
 
     -- A lookup finds the old value of its key, or else the first one that the pairs give it.
     pub lookup_puts_new : (l ps : List (K × V)) (q : K) → lookup eq (puts_new eq l ps) q ≡ option_or (lookup eq l q) (lookup eq ps q)

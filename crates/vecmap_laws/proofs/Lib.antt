@@ -21,12 +21,10 @@ pub mod Equations
 pub mod FilterLemmas
 pub mod Finds
 pub mod FirstValue
-pub mod FoundLemmas
 pub mod HeadLemmas
 pub mod Indices
 pub mod IndicesAfter
 pub mod Inserted
-pub mod InverseLemmas
 pub mod ItemAdditions
 pub mod ItemIndices
 pub mod ItemMembers

@@ -2,7 +2,6 @@ pub mod Agreement
 pub mod Algebra
 pub mod Combining
 pub mod FirstValue
-pub mod Inverse
 pub mod Nested
 pub mod Pulls
 pub mod Removals

@@ -1,30 +1,50 @@
 -- What a borrow of the pairs leaves, and what a call leaves that appends a pair if a query matches nothing.
-use Rattle.std.specs.{List.refill}
-use Rattle.std.proofs.Common.{arith, ◌≡◌, ◌∙◌, ◌++◌, ◌+◌, ℕ, Bool, true, false, List, [], ◌∷◌, None, Some, ap, if◌then◌else◌, is_some, length, refl, sym, true≢false, unwrap_or}
+use Rattle.std.specs.{Cmp.IsEquivalence, List.refill, Map.IsKeyTest}
+use Rattle.std.proofs.Common.{arith, ◌≡◌, ◌∙◌, ◌++◌, ◌+◌, ℕ, Bool, true, List, [], ◌∷◌, None, Some, ap, if◌then◌else◌, is_some, length, refl, sym, true≢false, unwrap_or}
 use Rattle.std.proofs.lemmas.List.{length-append}
 use Rattle.vecmap_base.specs.Pairs.{index_by, lookup_by}
 use Rattle.vecmap_base.proofs.IndexLemmas.{slice_get_last}
-use Rattle.vecmap_base.proofs.PairsLemmas.{AtIndices.index_stays, ByIndex.index_by_appended, ByIndex.is_some_lookup_by, Parts.lookup_by_append}
+use Rattle.vecmap_base.proofs.PairsLemmas.{AtIndices.{index_stays, match_at}, ByIndex.{index_by_appended, is_some_lookup_by}, Parts.lookup_by_append, Updates.{updates_appended_found, updates_matched, updates_written_at}}
 use Rattle.vecmap_map.specs.Contents.{Contents, FindsOrAppends, with_entries, with_written}
 
 -- A map whose vector of n pairs was borrowed is `m` with what was last written.
 pub refilled_back : {K V : Type 0} (v m : Contents K V) → v ≡ m → (n : ℕ) → n ≡ length v.entries → (w : List (K × V)) → with_entries v (refill n v.entries w) ≡ with_written m w
 refilled_back v m e n long w = ap (λ k. with_entries v (refill k v.entries w)) long ∙ ap (λ c. with_written c w) e
 
-module _ {K V : Type 0} (test : K → Bool) (made : K × V → Type 0) where
+ruleset appended = (is_some_lookup_by, lookup_by_append, slice_get_last, index_by_appended, index_stays, length-append)
+
+module _ {K V : Type 0} (eq : K → K → Bool) (o : IsEquivalence eq) (test : K → Bool) (respects : IsKeyTest eq test) (made : K × V → Type 0) where
   -- If a key matches, nothing changes.
-  pub finds_match : (m : Contents K V) (i : ℕ) → index_by test m.entries ≡ Some i → FindsOrAppends test made m m
+  pub finds_match : (m : Contents K V) (i : ℕ) → index_by test m.entries ≡ Some i → FindsOrAppends eq test made m m i
   finds_match m i at =
       let some : is_some (lookup_by test m.entries) ≡ true = is_some_lookup_by test m.entries ∙ ap is_some at in
+      let updates = updates_matched eq o test respects m.entries in
       record {
+        at = match_at test m.entries i at;
         unchanged = λ _. refl;
         value = λ v absent only. absurd (true≢false (sym some ∙ ap is_some absent));
         pair = λ p absent only. absurd (true≢false (sym some ∙ ap is_some absent));
         index = at ∙ ap (λ found. Some (unwrap_or found (length m.entries))) (sym at);
         indices = λ other j found. found;
         len = ap (λ b. if b then length m.entries else length m.entries + 1) (sym some);
+        stays = λ _. refl;
+        updates = updates;
+        written = λ v. updates_written_at eq o test respects m.entries m.entries (lookup_by test m.entries) i v updates at;
       }
 
   -- If none does, the pair that was made is appended.
-  pub appends_made : (old new : Contents K V) (p : K × V) → index_by test old.entries ≡ None → test p.0 ≡ true → made p → new.entries ≡ old.entries ++ p ∷ [] → FindsOrAppends test made old new
-  appends_made old new p miss hit did e = grind (arith, is_some_lookup_by, lookup_by_append, slice_get_last, index_by_appended, index_stays, length-append)
+  pub appends_made : (old new : Contents K V) (p : K × V) (i : ℕ) → index_by test old.entries ≡ None → test p.0 ≡ true → made p → new.entries ≡ old.entries ++ p ∷ [] → index_by test new.entries ≡ Some i → FindsOrAppends eq test made old new i
+  appends_made old new p i miss hit did e at =
+      let updates = updates_appended_found eq o test respects old.entries new.entries p e miss hit in
+      record {
+        at = match_at test new.entries i at;
+        unchanged = grind (arith, appended);
+        value = grind (arith, appended);
+        pair = grind (arith, appended);
+        index = grind (arith, appended);
+        indices = grind (arith, appended);
+        len = grind (arith, appended);
+        stays = grind (arith, appended);
+        updates = updates;
+        written = λ v. updates_written_at eq o test respects old.entries new.entries (lookup_by test new.entries) i v updates at;
+      }

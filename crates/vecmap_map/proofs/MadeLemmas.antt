@@ -1,18 +1,21 @@
--- What lookups find in a map that is made of pairs.
+-- What is in a map that is made of clones of pairs.
 use Rattle.std.specs.{Cmp.IsEquivalence, Option.option_or}
-use Rattle.std.proofs.Common.{◌≡◌, ◌∙◌, Bool, List, [], None, Option, Some, refl}
-use Rattle.vecmap_base.specs.Pairs.{HasDistinctKeys, lookup, puts}
-use Rattle.vecmap_base.proofs.{DistinctLemmas.Absent.distinct_none, PairsLemmas.Parts.joins_of_puts}
+use Rattle.std.proofs.Common.{◌≡◌, ◌∙◌, Bool, List, [], None, Option, Some, ap, arith, refl}
+use Rattle.std.proofs.{lemmas.Map.Entries.entries_from_clone, lemmas.Slice.Zip.AllZip-long}
+use Rattle.vecmap_base.specs.{Clones.{ArePairClones, IsPairClone}, Pairs.puts}
+use Rattle.vecmap_base.proofs.PairsLemmas.Parts.{makes_pairs}
+use Rattle.vecmap_map.specs.MapBulk.{MakesClones}
 
 pub or_none : {X : Type 0} (a : Option X) → option_or a None ≡ a
 or_none None = refl
 or_none (Some x) = refl
 
-module _ {K V : Type 0} (eq : K → K → Bool) (o : IsEquivalence eq) where
-  -- No two keys are equal.
-  pub distinct_of_puts : (pairs m : List (K × V)) → m ≡ puts eq [] pairs → HasDistinctKeys eq m
-  distinct_of_puts pairs m e = (joins_of_puts eq o [] pairs m e).distinct (distinct_none eq)
-
-  -- If the pairs have distinct keys, a key has its value in them.
-  pub found_in_puts : (pairs m : List (K × V)) → m ≡ puts eq [] pairs → HasDistinctKeys eq pairs → (q : K) → lookup eq m q ≡ lookup eq pairs q
-  found_in_puts pairs m e d q = (joins_of_puts eq o [] pairs m e).lookups d q ∙ or_none (lookup eq pairs q)
+pub makes_clones : {K V : Type 0} (eq : K → K → Bool) (o : IsEquivalence eq) (key : K → K → Type 0) (value : V → V → Type 0) (pairs m clones : List (K × V)) → ArePairClones key value pairs clones → m ≡ puts eq [] clones → MakesClones eq key value pairs m
+makes_clones eq o key value pairs m clones are e =
+    let made = makes_pairs eq o clones m e in
+    record {
+      entries = (clones, are, e);
+      lookups = λ keys values. (makes_pairs eq o pairs m (e ∙ ap (puts eq []) (entries_from_clone key value keys values pairs clones are))).lookups;
+      distinct = made.distinct;
+      len = omega (arith, made.len, AllZip-long (IsPairClone key value) pairs clones are);
+    }

@@ -2,7 +2,7 @@
 -- with the pairs `l` and the capacity `n`, and `done` and `failed` are results of calls.
 use Rattle.std.specs.Prelude.{◌≡◌, ◌++◌, ◌∷◌, [], ◌+◌, ◌<◌, ◌≤◌, ℕ, Bool, IsOk, IsSome, List, None, OnErr, OnOk, Option, Result, Some, if◌then◌else◌, is_some, length, slice_get, unwrap_or}
 use Rattle.std.specs.{List.refill, Map.set_value, Option.option_map_or}
-use Rattle.vecmap_base.specs.{declared.refused.Refused.Refused, Pairs.{index_by, index_of, lookup_by, with_pair, with_value}}
+use Rattle.vecmap_base.specs.{declared.refused.Refused.Refused, Indices.HasMatchAt, Lookups.UpdatesBy, Pairs.{index_by, index_of, lookup_by, with_pair, with_value}}
 
 -- Example: `[(1,a)]` with capacity 4.
 -- The pairs from the first to the last, and how many of them fit before the vector grows.
@@ -104,14 +104,19 @@ module _ {K V : Type 0} where
   FailsToAppend becomes made old error = (pair : K × V) × made pair × IsFull old × becomes (record { given = pair }) error
 
   -- Example: of the key 2 and a pair `(2,b)`: from `[(1,a)]` to `[(1,a), (2,b)]`.
-  -- A key that the test matches was present, and nothing has changed, or a pair that was made was appended.
-  pub record FindsOrAppends (test : K → Bool) (made : K × V → Type 0) (old new : Contents K V) : Type 0 where
+  -- A key that the test matches was present, and nothing has changed, or a pair that was made was appended. It is at `i`.
+  pub record FindsOrAppends (eq : K → K → Bool) (test : K → Bool) (made : K × V → Type 0) (old new : Contents K V) (i : ℕ) : Type 0 where
+    pub at : HasMatchAt test new.entries i
     pub unchanged : IsSome (lookup_by test old.entries) → new ≡ old
     pub value : (v : V) → lookup_by test old.entries ≡ None → ((pair : K × V) → made pair → pair.1 ≡ v) → lookup_by test new.entries ≡ Some v
     pub pair : (p : K × V) → lookup_by test old.entries ≡ None → ((pair : K × V) → made pair → pair ≡ p) → slice_get new.entries (length old.entries) ≡ Some p
     pub index : index_by test new.entries ≡ Some (unwrap_or (index_by test old.entries) (length old.entries))
     pub indices : (other : K → Bool) (i : ℕ) → index_by other old.entries ≡ Some i → index_by other new.entries ≡ Some i
     pub len : length new.entries ≡ (if is_some (lookup_by test old.entries) then length old.entries else length old.entries + 1)
+    -- What other keys find: what they found, also after a write at `i`.
+    pub stays : IsSome (lookup_by test old.entries) → lookup_by test new.entries ≡ lookup_by test old.entries
+    pub updates : UpdatesBy eq test old.entries new.entries (lookup_by test new.entries)
+    pub written : (v : V) → UpdatesBy eq test old.entries (with_value new.entries i v) (Some v)
 
 module _ {K V : Type 0} (eq : K → K → Bool) where
   -- Example: `KeepsRoom nat_eq (map_of [(1, a)] 2) 2 (map_of [(1, a), (2, b)] 2)`.

@@ -1,7 +1,7 @@
 -- What calls that insert many pairs leave.
-use Rattle.std.specs.{Prelude.{◌≡◌, ◌<◌, ◌≤◌, ◌⊎◌, Bool, List, OnErr, Option, Result, length, map}, Iterator.Count}
+use Rattle.std.specs.{Prelude.{◌≡◌, ◌<◌, ◌≤◌, ◌⊎◌, Bool, List, [], OnErr, Option, Result, length, map}, Iterator.Count}
 use Rattle.std.specs.declared.clone.Clone as clone
-use Rattle.vecmap_base.specs.{Bulk.{HasRoomForAll, HasRoomForHalf, StopsAt}, Clones.ArePairClones, Pairs.puts}
+use Rattle.vecmap_base.specs.{Bulk.{HasRoomForAll, HasRoomForHalf, StopsAt}, Clones.{ArePairClones, ClonesAreSame}, Pairs.{HasDistinctKeys, lookup, puts}}
 use Rattle.vecmap_map.specs.Contents.{Contents, HasRoom, Refuses}
 
 module _ {K V : Type 0} where
@@ -15,12 +15,22 @@ module _ {K V U T A E : Type 0} (becomes : U → T → Type 0) (steps : T → Op
   -- On `Err` the reservation failed, and nothing has changed, or the call stopped at an item that could not be stored.
   -- With spare capacity for half of the items in a map that is not empty, the reservation cannot fail.
   -- Example: of `(2,b)` on a full `[(1,a)]`, if allocation fails: the same map.
-  -- The capacity after a call that inserts the items of `iter`, and what the call leaves on `Err`.
-  pub record Extends (refuses : Contents K V → Contents K V → List A → A → Type 0) (iter : U) (old : Contents K V) (result : Result (Unit {0}) E) (new : Contents K V) : Type 0 where
+  -- The capacity after a call that inserts the items of `iter`, and what the call leaves on `Err`. Distinct keys stay distinct.
+  pub record Extends (eq : K → K → Bool) (refuses : Contents K V → Contents K V → List A → A → Type 0) (iter : U) (old : Contents K V) (result : Result (Unit {0}) E) (new : Contents K V) : Type 0 where
     pub capacity : old.capacity ≤ new.capacity
     pub capacity_stays : HasRoomForAll becomes left iter (HasRoom old) → new.capacity ≡ old.capacity
     pub err : OnErr result ((new ≡ old) ⊎ StopsAt becomes steps iter (refuses old new))
+    pub distinct : HasDistinctKeys eq old.entries → HasDistinctKeys eq new.entries
     pub late_err : 0 < length old.entries → HasRoomForHalf becomes left iter (HasRoom old) → OnErr result (StopsAt becomes steps iter (refuses old new))
+
+-- Example: of references to `[(1,a), (1,b)]`: `[(1,b)]`.
+-- The list `m` is what insertions of clones of `pairs` make.
+pub record MakesClones {K V : Type 0} (eq : K → K → Bool) (key_clone : K → K → Type 0) (value_clone : V → V → Type 0) (pairs m : List (K × V)) : Type 0 where
+  pub entries : (clones : List (K × V)) × ArePairClones key_clone value_clone pairs clones × (m ≡ puts eq [] clones)
+  -- What lookups find if each clone is the same as its original.
+  pub lookups : ClonesAreSame key_clone → ClonesAreSame value_clone → HasDistinctKeys eq pairs → (q : K) → lookup eq m q ≡ lookup eq pairs q
+  pub distinct : HasDistinctKeys eq m
+  pub len : length m ≤ length pairs
 
 module _ {K V : Type 0} (eq : K → K → Bool) where
   -- Example: `Puts eq (map_of [(1x, a)] 4) [(1y, b), (2x, c)] (map_of [(1x, b), (2x, c)] 4)`.

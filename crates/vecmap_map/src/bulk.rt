@@ -1,10 +1,10 @@
 //! Creation of a map from many pairs, and insertion of many pairs.
 ghost use Rattle.std.specs.Prelude.{◌≡◌, ◌<◌, ◌+◌, ◌≤◌, ◌/◌, IfOk, IsOk, List, None, OnErr, OnOk, [], if◌then◌else◌, length};
-ghost use Rattle.std.specs.{Iterator.{Drains, ExtendsWithItems, IsFiniteIterable}, Option.option_or, Map.Iter.{deref, deref_pair}};
-ghost use Rattle.vecmap_base.specs.{Bulk.{HasRoomForAll, HoldsOfEach, YieldsAll}, Clones.{ArePairClones, ClonesAreSame, ClonesSucceed}};
-ghost use Rattle.vecmap_base.specs.{Lookups.Joins, Pairs.{HasDistinctKeys, lookup, put, puts}};
+ghost use Rattle.std.specs.{Iterator.{Drains, ExtendsWithItems, IsFiniteIterable}, Map.Iter.{deref, deref_pair}};
+ghost use Rattle.vecmap_base.specs.{Bulk.{HasRoomForAll, HoldsOfEach, YieldsAll}, Clones.ClonesSucceed};
+ghost use Rattle.vecmap_base.specs.{Lookups.{Joins, MakesPairs}, Pairs.{HasDistinctKeys, put, puts}};
 ghost use Rattle.vecmap_map.specs.Contents.{HasRoom, KeepsRoomAt, Refuses, with_entries};
-ghost use Rattle.vecmap_map.specs.MapBulk.{Extends, Puts, PutsClones, RefusesAfter, RefusesClonesAfter};
+ghost use Rattle.vecmap_map.specs.MapBulk.{Extends, MakesClones, Puts, PutsClones, RefusesAfter, RefusesClonesAfter};
 
 use crate::VecMap;
 use std::alloc::{AllocError, Global};
@@ -47,10 +47,9 @@ impl<K, V> VecMap<K, V> {
             × (map.entries ≡ puts K.eq [] pairs)) }
 
         // What follows for lookups, lengths and indices.
-        ensures lookups { (pairs : List (K × V))
+        ensures made { (pairs : List (K × V))
             → YieldsAll I.into_iter_gives I.IntoIter.next_gives iter pairs
-            → HasDistinctKeys K.eq pairs → IfOk result (λ map. (q : K)
-            → lookup K.eq map.entries q ≡ lookup K.eq pairs q) }
+            → IfOk result (λ map. MakesPairs K.eq pairs map.entries) }
         ensures distinct { IfOk result (λ map. HasDistinctKeys K.eq map.entries) }
     {
         let mut map = VecMap::new(alloc);
@@ -83,17 +82,9 @@ impl<K, V> VecMap<K, V> {
     where
         K: Eq + Clone,
         V: Clone,
-        ensures entries { IfOk result (λ map. (clones : List (K × V))
-            × ArePairClones K.is_clone V.is_clone pairs.now clones
-            × (map.entries ≡ puts K.eq [] clones)) }
+        ensures made { IfOk result (λ map. MakesClones K.eq K.is_clone V.is_clone pairs.now
+            map.entries) }
         ensures at_least { IfOk result (λ map. length pairs.now ≤ map.capacity) }
-
-        // What follows for lookups, lengths and indices.
-        ensures lookups { ClonesAreSame K.is_clone → ClonesAreSame V.is_clone
-            → HasDistinctKeys K.eq pairs.now → IfOk result (λ map. (q : K)
-            → lookup K.eq map.entries q ≡ lookup K.eq pairs.now q) }
-        ensures distinct { IfOk result (λ map. HasDistinctKeys K.eq map.entries) }
-        ensures len { IfOk result (λ map. length map.entries ≤ length pairs.now) }
     {
         let mut map = VecMap::with_capacity(alloc, pairs.len())?;
         for pair in pairs {
@@ -130,8 +121,7 @@ impl<K, V> VecMap<K, V> {
     where
         K: Eq + Drop,
         V: Drop,
-        ensures entries { OnOk result (self.new.entries
-            ≡ puts K.eq self.old.entries other.old.entries) }
+        ensures joins { OnOk result (Joins K.eq self.old.entries other.old.entries self.new.entries) }
         ensures emptied { OnOk result (other.new ≡ with_entries other.old []) }
         ensures capacity { self.old.capacity ≤ self.new.capacity }
         ensures succeeds { HasRoom self.old (length other.old.entries) → IsOk result }
@@ -140,12 +130,6 @@ impl<K, V> VecMap<K, V> {
         ensures not_empty { OnErr result (0 < length other.old.entries) }
         ensures err { OnErr result (self.new ≡ self.old) }
         ensures other_err { OnErr result (other.new ≡ other.old) }
-
-        // What follows for lookups, lengths and indices.
-        ensures lookups { OnOk result (Joins K.eq self.old.entries other.old.entries
-            self.new.entries) }
-        ensures len { OnOk result (length self.new.entries
-            ≤ length self.old.entries + length other.old.entries) }
     {
         self.reserve(other.len())?;
         for (key, value) in other.pairs.drain(..) {
@@ -158,8 +142,7 @@ impl<K, V> VecMap<K, V> {
     ///
     /// An existing key stays as it is, at its index, and only its value changes. A new pair is appended.
     ///
-    /// If a proof knows which pairs the iterator yields, and their keys are distinct, it knows what lookups find
-    /// afterwards (`lookups`).
+    /// If a proof knows which pairs the iterator yields, it knows what lookups find afterwards (`joins`).
     ///
     /// This is Rust's `Extend<(K, V)>`. The call first reserves capacity. If the map is empty, it reserves as much as
     /// the lower size hint of the iterator says. Otherwise it reserves half of that, rounded up, as some keys may be
@@ -198,18 +181,12 @@ impl<K, V> VecMap<K, V> {
         ensures succeeds { HasRoomForAll I.into_iter_gives I.IntoIter.remaining iter
             (HasRoom self.old) → IsOk result }
         ensures extended { Extends I.into_iter_gives I.IntoIter.next_gives I.IntoIter.remaining
-            (RefusesAfter K.eq) iter self.old result self.new }
+            K.eq (RefusesAfter K.eq) iter self.old result self.new }
 
         // What follows for lookups, lengths and indices.
-        ensures lookups { (pairs : List (K × V))
-            → YieldsAll I.into_iter_gives I.IntoIter.next_gives iter pairs
-            → HasDistinctKeys K.eq pairs → OnOk result ((q : K) → lookup K.eq self.new.entries q
-            ≡ option_or (lookup K.eq pairs q) (lookup K.eq self.old.entries q)) }
         ensures joins { (pairs : List (K × V))
             → YieldsAll I.into_iter_gives I.IntoIter.next_gives iter pairs
             → OnOk result (Joins K.eq self.old.entries pairs self.new.entries) }
-        ensures distinct { HasDistinctKeys K.eq self.old.entries
-            → HasDistinctKeys K.eq self.new.entries }
     {
         let items = iter.into_iter();
         self.reserve(capacity_to_reserve(self.is_empty(), items.size_hint().0))?;
@@ -255,11 +232,7 @@ impl<K, V> VecMap<K, V> {
             (HasRoom self.old) → HoldsOfEach I.into_iter_gives I.IntoIter.next_gives iter
             (ClonesSucceed K.Clone V.Clone deref_pair) → IsOk result }
         ensures extended { Extends I.into_iter_gives I.IntoIter.next_gives I.IntoIter.remaining
-            (RefusesClonesAfter K.eq K.Clone V.Clone deref_pair) iter self.old result self.new }
-
-        // What follows for lookups, lengths and indices.
-        ensures distinct { HasDistinctKeys K.eq self.old.entries
-            → HasDistinctKeys K.eq self.new.entries }
+            K.eq (RefusesClonesAfter K.eq K.Clone V.Clone deref_pair) iter self.old result self.new }
     {
         let items = iter.into_iter();
         self.reserve(capacity_to_reserve(self.is_empty(), items.size_hint().0))?;
@@ -303,11 +276,7 @@ impl<K, V> VecMap<K, V> {
             (HasRoom self.old) → HoldsOfEach I.into_iter_gives I.IntoIter.next_gives iter
             (ClonesSucceed K.Clone V.Clone deref) → IsOk result }
         ensures extended { Extends I.into_iter_gives I.IntoIter.next_gives I.IntoIter.remaining
-            (RefusesClonesAfter K.eq K.Clone V.Clone deref) iter self.old result self.new }
-
-        // What follows for lookups, lengths and indices.
-        ensures distinct { HasDistinctKeys K.eq self.old.entries
-            → HasDistinctKeys K.eq self.new.entries }
+            K.eq (RefusesClonesAfter K.eq K.Clone V.Clone deref) iter self.old result self.new }
     {
         let items = iter.into_iter();
         self.reserve(capacity_to_reserve(self.is_empty(), items.size_hint().0))?;

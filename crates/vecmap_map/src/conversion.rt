@@ -1,6 +1,6 @@
 //! Conversions of a vector into a map, which keep the vector, and of an array; clones of the pairs in a new vector.
-ghost use Rattle.std.specs.{Prelude.{◌≡◌, ◌<◌, ◌≤◌, IfOk, [], length, vec_capacity}, Map.keys_of};
-ghost use Rattle.vecmap_base.specs.{Clones.ArePairClones, Pairs.{HasDistinctKeys, lookup, puts}, Comparisons.comparisons};
+ghost use Rattle.std.specs.{Prelude.{◌≡◌, ◌≤◌, IfOk, length, vec_capacity}, Map.keys_of};
+ghost use Rattle.vecmap_base.specs.{Clones.ArePairClones, Comparisons.comparisons, Lookups.MakesPairs, Pairs.HasDistinctKeys};
 
 use crate::VecMap;
 use std::alloc::{AllocError, Global};
@@ -21,12 +21,8 @@ use vecmap_base::{Steps, dedup_keep_last_value};
 /// map.as_slice() // [('a', 3), ('b', 2)]
 /// ```
 impl<K: Eq + Drop, V: Drop> From<Vec<(K, V)>> for VecMap<K, V> {
-    ghost from_gives = { λ pairs map. (map.entries ≡ puts K.eq [] pairs.items)
-        × (map.capacity ≡ vec_capacity pairs) × HasDistinctKeys K.eq map.entries
-        × (HasDistinctKeys K.eq pairs.items → (q : K) → lookup K.eq map.entries q
-        ≡ lookup K.eq pairs.items q) × (length map.entries ≤ length pairs.items)
-        × (HasDistinctKeys K.eq pairs.items → map.entries ≡ pairs.items)
-        × (0 < length pairs.items → 0 < length map.entries) };
+    ghost from_gives = { λ pairs map. MakesPairs K.eq pairs.items map.entries
+        × (map.capacity ≡ vec_capacity pairs) };
 
     fn from(pairs: Vec<(K, V)>) -> VecMap<K, V> {
         let (map, _count) = VecMap::from_vec_counted(pairs);
@@ -54,17 +50,9 @@ impl<K, V> VecMap<K, V> {
     where
         K: Eq + Drop,
         V: Drop,
-        ensures entries { result.0.entries ≡ puts K.eq [] pairs.items }
+        ensures made { MakesPairs K.eq pairs.items result.0.entries }
         ensures capacity { result.0.capacity ≡ vec_capacity pairs }
         ensures counted { result.1 ≡ comparisons K.eq (keys_of pairs.items) }
-
-        // What follows for lookups, lengths and indices.
-        ensures distinct { HasDistinctKeys K.eq result.0.entries }
-        ensures lookups { HasDistinctKeys K.eq pairs.items → (q : K)
-            → lookup K.eq result.0.entries q ≡ lookup K.eq pairs.items q }
-        ensures len { length result.0.entries ≤ length pairs.items }
-        ensures as_given { HasDistinctKeys K.eq pairs.items → result.0.entries ≡ pairs.items }
-        ensures not_empty { 0 < length pairs.items → 0 < length result.0.entries }
     {
         let mut steps = Steps::new();
         dedup_keep_last_value(&mut pairs, &mut steps);
@@ -96,13 +84,10 @@ impl<K, V> VecMap<K, V> {
     where
         K: Eq + Drop,
         V: Drop,
-        ensures entries { IfOk result (λ map. map.entries ≡ puts K.eq [] pairs) }
+        ensures made { IfOk result (λ map. MakesPairs K.eq pairs map.entries) }
         ensures at_least { IfOk result (λ map. N ≤ map.capacity) }
 
         // What follows for lookups, lengths and indices.
-        ensures distinct { IfOk result (λ map. HasDistinctKeys K.eq map.entries) }
-        ensures lookups { HasDistinctKeys K.eq pairs → IfOk result (λ map. (q : K)
-            → lookup K.eq map.entries q ≡ lookup K.eq pairs q) }
         ensures len { IfOk result (λ map. length map.entries ≤ N) }
     {
         Ok(VecMap::from(Vec::from_array(alloc, pairs)?))

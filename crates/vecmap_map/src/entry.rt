@@ -2,7 +2,7 @@
 //!
 //! An entry holds the map, the key that was passed to `entry`, and the index of that key. A clause `writes_back` says
 //! what the map is once the returned reference has ended.
-ghost use Rattle.std.specs.Prelude.{◌≡◌, ◌<◌, ◌⊎◌, Err, IfErr, IfOk, IfSome, None, Ok, OnErr, Some, length, unwrap_or};
+ghost use Rattle.std.specs.Prelude.{◌≡◌, ◌<◌, ◌^◌, ◌⊎◌, Err, IfErr, IfOk, IfSome, None, Ok, OnErr, Some, length, unwrap_or};
 ghost use Rattle.std.specs.{Borrow.{Bor, MutBor, sem}, Fn.FnOnceReturnsAt, Map.Calls.ModifiesValue, Option.{UnwrapsOrElse, option_map_or}};
 ghost use Rattle.vecmap_base.specs.{Insertions.AddsKey, Pairs.{index_of, lookup}, Removals.{RemovesBy, SwapRemovesBy}};
 ghost use Rattle.vecmap_map.specs.Contents.{IsFull};
@@ -295,7 +295,8 @@ impl<'a, K, V> Entry<'a, K, V> {
     /// map.entry('c').index() // 2
     /// ```
     pub fn index(&self) -> usize
-        ensures { result ≡ entry_index self.now }
+        ensures index { result ≡ entry_index self.now }
+        ensures countable { result < 2 ^ 63 }
     {
         match self {
             Entry::Occupied(entry) => entry.index(),

@@ -9,16 +9,7 @@ ghost use Rattle.vecmap_map.specs.{Contents.HasRoom, MapBulk.{Extends, Grows, Pu
 use crate::VecMap;
 use std::alloc::AllocError;
 
-/// Inserts the pairs of an iterator in order, like the inherent [`VecMap::extend`].
-///
-/// # Errors
-///
-/// [`AllocError`] if an allocation fails. If the capacity that is reserved first cannot be allocated, the map is
-/// unchanged. If the map cannot grow for a pair, the pairs before it are in the map.
-///
-/// # Preconditions
-///
-/// The iterator ends.
+/// Inserts the pairs of an iterator in order, like the inherent [`VecMap::extend`], with its errors and its precondition.
 ///
 /// # Examples
 ///
@@ -40,23 +31,14 @@ impl<K: Eq + Drop, V: Drop> Extend<(K, V)> for VecMap<K, V> {
         ensures succeeds { HasRoomForAll I.into_iter_gives I.IntoIter.remaining iter
             (HasRoom self.old) → IsOk result }
         ensures extended { Extends I.into_iter_gives I.IntoIter.next_gives I.IntoIter.remaining
-            (RefusesAfter K.eq) iter self.old result self.new }
+            K.eq (RefusesAfter K.eq) iter self.old result self.new }
     {
         VecMap::extend(self, iter)
     }
 }
 
 /// Inserts clones of the keys and values of an iterator of references, in order, like the inherent
-/// [`VecMap::extend_refs`].
-///
-/// # Errors
-///
-/// [`AllocError`] if an allocation fails, or if a clone fails. If the capacity that is reserved first cannot be
-/// allocated, the map is unchanged. If a pair cannot be cloned or stored, clones of the pairs before it are in the map.
-///
-/// # Preconditions
-///
-/// The iterator ends.
+/// [`VecMap::extend_refs`], with its errors and its precondition.
 ///
 /// # Examples
 ///
@@ -78,22 +60,14 @@ impl<'a, K: Eq + Clone + 'a, V: Clone + 'a> Extend<(&'a K, &'a V)> for VecMap<K,
             (HasRoom self.old) → HoldsOfEach I.into_iter_gives I.IntoIter.next_gives iter
             (ClonesSucceed K.Clone V.Clone deref_pair) → IsOk result }
         ensures extended { Extends I.into_iter_gives I.IntoIter.next_gives I.IntoIter.remaining
-            (RefusesClonesAfter K.eq K.Clone V.Clone deref_pair) iter self.old result self.new }
+            K.eq (RefusesClonesAfter K.eq K.Clone V.Clone deref_pair) iter self.old result self.new }
     {
         self.extend_refs(iter)
     }
 }
 
-/// Inserts clones of the pairs of an iterator of references, in order, like the inherent [`VecMap::extend_pairs`].
-///
-/// # Errors
-///
-/// [`AllocError`] if an allocation fails, or if a clone fails. If the capacity that is reserved first cannot be
-/// allocated, the map is unchanged. If a pair cannot be cloned or stored, clones of the pairs before it are in the map.
-///
-/// # Preconditions
-///
-/// The iterator ends.
+/// Inserts clones of the pairs of an iterator of references, in order, like the inherent [`VecMap::extend_pairs`], with
+/// its errors and its precondition.
 ///
 /// # Examples
 ///
@@ -114,7 +88,7 @@ impl<'a, K: Eq + Clone + 'a, V: Clone + 'a> Extend<&'a (K, V)> for VecMap<K, V> 
             (HasRoom self.old) → HoldsOfEach I.into_iter_gives I.IntoIter.next_gives iter
             (ClonesSucceed K.Clone V.Clone deref) → IsOk result }
         ensures extended { Extends I.into_iter_gives I.IntoIter.next_gives I.IntoIter.remaining
-            (RefusesClonesAfter K.eq K.Clone V.Clone deref) iter self.old result self.new }
+            K.eq (RefusesClonesAfter K.eq K.Clone V.Clone deref) iter self.old result self.new }
     {
         self.extend_pairs(iter)
     }

@@ -1,6 +1,6 @@
 //! `map[index]` and `map[&key]`: the value at an index, and the value of a key.
-ghost use Rattle.std.specs.{Prelude.{◌≡◌, ◌<◌, IsSome, Some, bytes_eq, length, string_eq}, Borrow.sem, Map.set_value};
-ghost use Rattle.vecmap_base.specs.{Indices.KeepsIndices, Lookups.{Updates, UpdatesAt, UpdatesBy}};
+ghost use Rattle.std.specs.{Prelude.{◌≡◌, ◌<◌, IsSome, Some, bytes_eq, length, string_eq}, Borrow.sem};
+ghost use Rattle.vecmap_base.specs.Lookups.{UpdatesAt, WritesBy};
 ghost use Rattle.vecmap_base.specs.Pairs.{has_text, index_by, lookup, lookup_by, value_at, with_value};
 
 use crate::VecMap;
@@ -16,8 +16,7 @@ impl<K, V> VecMap<K, V> {
         requires present { IsSome (lookup_by (Q.equivalent query) self.now.entries) }
         ensures index { index_by (Q.equivalent query) self.now.entries ≡ Some result }
         ensures within { result < length self.now.entries }
-        ensures written { (v : V) → UpdatesBy K.eq (Q.equivalent query) self.now.entries
-            (with_value self.now.entries result v) (Some v) }
+        ensures writes { WritesBy K.eq (Q.equivalent query) self.now.entries }
     {
         self.get_index_of(query).unwrap()
     }
@@ -136,10 +135,7 @@ impl<'q, K: Eq, V> IndexMut<&'q K> for VecMap<K, V> {
         ensures value { lookup K.eq self.old.entries key.now ≡ Some result.now }
 
         // What follows for lookups, lengths and indices.
-        ensures updates { (v : V) → Updates K.eq self.old.entries key.now
-            (set_value (K.eq key.now) self.old.entries v) (Some v) }
-        ensures keys { (v : V) → KeepsIndices self.old.entries
-            (set_value (K.eq key.now) self.old.entries v) }
+        ensures writes { WritesBy K.eq (K.eq key.now) self.old.entries }
     {
         let index = self.present_index(key);
         self.value_mut(index)
@@ -206,10 +202,7 @@ impl<'q, V> IndexMut<&'q str> for VecMap<String, V> {
         ensures value { lookup_by (has_text text.now) self.old.entries ≡ Some result.now }
 
         // What follows for lookups, lengths and indices.
-        ensures updates { (v : V) → UpdatesBy string_eq (has_text text.now) self.old.entries
-            (set_value (has_text text.now) self.old.entries v) (Some v) }
-        ensures keys { (v : V) → KeepsIndices self.old.entries
-            (set_value (has_text text.now) self.old.entries v) }
+        ensures writes { WritesBy string_eq (has_text text.now) self.old.entries }
     {
         let index = self.present_index(text);
         self.value_mut(index)

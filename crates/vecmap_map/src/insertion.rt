@@ -1,7 +1,7 @@
 //! Insertion of one pair.
-ghost use Rattle.std.specs.Prelude.{◌≡◌, ◌++◌, ◌∷◌, ◌<◌, ◌≤◌, ◌⊎◌, Err, IfErr, IfOk, IfSome, IsSome, IsTrue, None, Ok, OnErr, OnOk, Some, [], length};
-ghost use Rattle.vecmap_base.specs.{Indices.HasMatchAt, Insertions.{AddsKey, InsertsAt, PutsKey}, Lookups.UpdatesBy, Removals.FindsPair};
-ghost use Rattle.vecmap_base.specs.Pairs.{index_by, index_or_length, lookup, lookup_by, lookup_indexed, with_value};
+ghost use Rattle.std.specs.Prelude.{◌≡◌, ◌++◌, ◌∷◌, ◌<◌, ◌≤◌, ◌⊎◌, Err, IfErr, IfOk, IfSome, IsTrue, None, Ok, OnErr, OnOk, Some, [], length};
+ghost use Rattle.vecmap_base.specs.{Indices.HasMatchAt, Insertions.{AddsKey, InsertsAt, PutsKey}, Removals.FindsPair};
+ghost use Rattle.vecmap_base.specs.Pairs.{index_by, index_or_length, lookup, lookup_indexed};
 ghost use Rattle.vecmap_map.specs.Contents.{Appends, FailsToAppend, FindsOrAppends, HasRoom, KeepsRoom, KeepsRoomAt, Refuses, RefusesAt};
 
 use crate::VecMap;
@@ -270,6 +270,8 @@ impl<K, V> VecMap<K, V> {
         ensures index { IfOk result
             (λ i. index_by (Q.equivalent query) self.new.entries ≡ Some i) }
         ensures within { IfOk result (λ i. i < length self.new.entries) }
+        ensures found { IfOk result (FindsOrAppends K.eq (Q.equivalent query)
+            (λ pair. F.post make (Ok pair)) self.old self.new) }
         ensures present { IfSome (index_by (Q.equivalent query) self.old.entries)
             (λ i. (result ≡ Ok i) × (self.new ≡ self.old)) }
         ensures appended { OnOk result (index_by (Q.equivalent query) self.old.entries ≡ None
@@ -283,18 +285,6 @@ impl<K, V> VecMap<K, V> {
         ensures unchanged { OnErr result (self.new ≡ self.old) }
         ensures err { IfErr result (λ error. F.post make (Err error) ⊎ FailsToAppend
             E.from_gives (λ pair. F.post make (Ok pair)) self.old error) }
-
-        // What follows for lookups, lengths and indices.
-        ensures updates { OnOk result (UpdatesBy K.eq (Q.equivalent query) self.old.entries
-            self.new.entries (lookup_by (Q.equivalent query) self.new.entries)) }
-        ensures written { IfOk result (λ i. (value : V) → UpdatesBy K.eq (Q.equivalent query)
-            self.old.entries (with_value self.new.entries i value) (Some value)) }
-        ensures at { IfOk result (HasMatchAt (Q.equivalent query) self.new.entries) }
-        ensures stays { IsSome (lookup_by (Q.equivalent query) self.old.entries)
-            → lookup_by (Q.equivalent query) self.new.entries
-            ≡ lookup_by (Q.equivalent query) self.old.entries }
-        ensures found { OnOk result (FindsOrAppends (Q.equivalent query)
-            (λ pair. F.post make (Ok pair)) self.old self.new) }
     {
         if let Some(index) = self.get_index_of(query) {
             return Ok(index);

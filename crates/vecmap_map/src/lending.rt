@@ -1,7 +1,7 @@
 //! Calls that return a mutable reference to a value.
-ghost use Rattle.std.specs.{Prelude.{◌≡◌, ◌-◌, ◌<◌, ◌↔◌, IfSome, IsSome, Some, length, option_map, slice_get}, Borrow.sem, Map.set_value};
+ghost use Rattle.std.specs.{Prelude.{◌≡◌, ◌-◌, ◌<◌, ◌↔◌, IfSome, IsSome, Some, length, option_map, slice_get}, Borrow.sem};
 ghost use Rattle.std.specs.{Map.Iter.deref_pair_mut, Option.{option_and_then, option_copied_mut}};
-ghost use Rattle.vecmap_base.specs.{Indices.KeepsIndices, Lookups.{UpdatesAt, UpdatesBy}};
+ghost use Rattle.vecmap_base.specs.Lookups.{UpdatesAt, WritesBy};
 ghost use Rattle.vecmap_base.specs.Pairs.{index_by, lookup_by, lookup_pair_by, value_at, with_value};
 ghost use Rattle.vecmap_map.specs.Lends.{lends_value};
 
@@ -40,11 +40,7 @@ impl<K, V> VecMap<K, V> {
         ensures found { IsSome result ↔ IsSome (index_by (Q.equivalent query) self.old.entries) }
 
         // What follows for lookups, lengths and indices.
-        ensures updates { (v : V) → IsSome (lookup_by (Q.equivalent query) self.old.entries)
-            → UpdatesBy K.eq (Q.equivalent query) self.old.entries
-            (set_value (Q.equivalent query) self.old.entries v) (Some v) }
-        ensures keys { (v : V) → KeepsIndices self.old.entries
-            (set_value (Q.equivalent query) self.old.entries v) }
+        ensures writes { WritesBy K.eq (Q.equivalent query) self.old.entries }
         ensures stored { option_copied_mut result ≡ option_and_then (value_at self.old.entries)
             (index_by (Q.equivalent query) self.old.entries) }
     {

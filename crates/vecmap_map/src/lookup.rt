@@ -1,5 +1,5 @@
 //! Lookups by query and by index.
-ghost use Rattle.std.specs.Prelude.{◌≡◌, ◌-◌, ◌<◌, ◌↔◌, IfSome, IsTrue, Some, is_some, length, nat_lt, option_copied, option_map, slice_get, string_eq};
+ghost use Rattle.std.specs.Prelude.{◌≡◌, ◌-◌, ◌<◌, ◌^◌, ◌↔◌, IfSome, IsTrue, Some, is_some, length, nat_lt, option_copied, option_map, slice_get, string_eq};
 ghost use Rattle.std.specs.{Map.Iter.deref_pair, Option.option_and_then};
 ghost use Rattle.vecmap_base.specs.{Indices.{HasMatchAt, IsFoundAt}, Lookups.UpdatesBy};
 ghost use Rattle.vecmap_base.specs.Pairs.{HasDistinctKeys, has_text, index_by, lookup_by, lookup_pair_by, value_at, with_value};
@@ -151,6 +151,7 @@ impl<K, V> VecMap<K, V> {
         ensures index { option_map (λ found. found.0) result
             ≡ index_by (Q.equivalent query) self.now.entries }
         ensures within { IfSome result (λ found. found.0 < length self.now.entries) }
+        ensures countable { IfSome result (λ found. found.0 < 2 ^ 63) }
         ensures pair { option_map (λ found. (found.1.now, found.2.now)) result
             ≡ lookup_pair_by (Q.equivalent query) self.now.entries }
 
@@ -211,6 +212,7 @@ impl<K, V> VecMap<K, V> {
         K: Eq,
         ensures index { result ≡ index_by (Q.equivalent query) self.now.entries }
         ensures within { IfSome result (λ i. i < length self.now.entries) }
+        ensures countable { IfSome result (λ i. i < 2 ^ 63) }
 
         // What follows for lookups, lengths and indices.
         ensures found { is_some result ≡ is_some (lookup_by (Q.equivalent query) self.now.entries) }
@@ -220,6 +222,7 @@ impl<K, V> VecMap<K, V> {
         ensures written { IfSome result (λ i. (value : V) → UpdatesBy K.eq (Q.equivalent query)
             self.now.entries (with_value self.now.entries i value) (Some value)) }
     {
+        let _len = self.len(); // Bounds the index.
         find_equivalent(&self.pairs, query)
     }
 
@@ -289,6 +292,7 @@ impl<V> VecMap<String, V> {
     pub fn get_index_of_str(&self, text: &str) -> Option<usize>
         ensures index { result ≡ index_by (has_text text.now) self.now.entries }
         ensures within { IfSome result (λ i. i < length self.now.entries) }
+        ensures countable { IfSome result (λ i. i < 2 ^ 63) }
 
         // What follows for lookups, lengths and indices.
         ensures found { is_some result ≡ is_some (lookup_by (has_text text.now) self.now.entries) }

@@ -1,10 +1,9 @@
 //! Calls that return mutable references to keys.
-ghost use Rattle.std.specs.{Prelude.{◌≡◌, ◌<◌, ◌↔◌, Bool, IfSome, IsSome, List, Option, length, option_map, slice_get}, Borrow.sem};
-ghost use Rattle.std.specs.{Map.{IsKeyTest, keys_of}, Option.option_and_then};
+ghost use Rattle.std.specs.{Prelude.{◌≡◌, ◌<◌, ◌↔◌, IfSome, IsSome, List, Option, length, option_map, slice_get}, Borrow.sem};
+ghost use Rattle.std.specs.Map.{keys_of};
 ghost use Rattle.vecmap_base.specs.Asked.{CallableAtPairMut, CallableOnEach, CallsAtPairMut};
 ghost use Rattle.vecmap_base.specs.Iterators.{ShowsAllOf, deref_both_mut, deref_mut, iter_mut2_name, iter_mut2_rest, keys_mut_name, keys_mut_rest};
-ghost use Rattle.vecmap_base.specs.Kept.{FiltersValues, KeepsKeys, Kept, Retains};
-ghost use Rattle.vecmap_base.specs.Pairs.{HasDistinctKeys, index_by, lookup_by, lookup_pair_by};
+ghost use Rattle.vecmap_base.specs.{Kept.{KeepsKeys, Kept, Retains, RetainsPairs}, Pairs.{index_by, lookup_pair_by}};
 ghost use Rattle.vecmap_map.specs.Lends.{lends_pairs, lends_parts, lends_slice};
 
 use crate::VecMap;
@@ -80,8 +79,7 @@ pub trait MutableKeys: sealed::Sealed {
     /// `f` is called once for each pair, in order, in the state that the calls before have left. The other pairs are
     /// dropped at the end. The capacity stays.
     ///
-    /// If no call of `f` writes a key, distinct keys stay distinct. If what `f` does then also depends on the value
-    /// alone, and `f` only reads what it captures, a proof knows what lookups find afterwards (`lookups`).
+    /// If no call of `f` writes a key, the same is proved as of [`VecMap::retain`].
     ///
     /// # Preconditions
     ///
@@ -226,15 +224,10 @@ impl<K, V> MutableKeys for VecMap<K, V> {
         ensures capacity { self.new.capacity ≡ self.old.capacity }
 
         // What follows for lookups, lengths and indices.
-        ensures lookups { (h : V → Option V) → KeepsKeys (CallsAtPairMut F.FnMut)
-            → FiltersValues (CallsAtPairMut F.FnMut) f h → (test : K → Bool) (eq : K → K → Bool)
-            → HasDistinctKeys eq self.old.entries → IsKeyTest eq test
-            → lookup_by test self.new.entries
-            ≡ option_and_then h (lookup_by test self.old.entries) }
-        ensures distinct { KeepsKeys (CallsAtPairMut F.FnMut) → (eq : K → K → Bool)
-            → HasDistinctKeys eq self.old.entries → HasDistinctKeys eq self.new.entries }
         ensures left { Retains
             (CallsAtPairMut F.FnMut) f self.old.entries self.new.entries }
+        ensures selection { KeepsKeys (CallsAtPairMut F.FnMut)
+            → RetainsPairs (CallsAtPairMut F.FnMut) f self.old.entries self.new.entries }
     {
         retain_pairs_mut(&mut self.pairs, f);
     }

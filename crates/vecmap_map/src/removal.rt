@@ -1,9 +1,8 @@
 //! Removal of pairs.
-ghost use Rattle.std.specs.Prelude.{◌≡◌, ◌++◌, ◌<◌, ◌≤◌, Bool, IfNone, IfOk, IsOk, None, OnErr, OnOk, Option, String, [], drop, false, if◌then◌else◌, length, string_eq, true};
-ghost use Rattle.std.specs.{Map.{IsKeyTest, keys_of}, Option.{option_and_then, option_or}};
-ghost use Rattle.vecmap_base.specs.{Asked.{CallableAtPair, CallableOnEach, CallsAtPair}, Kept.{FiltersValues, Kept, Retains, ReturnsAtKey}};
+ghost use Rattle.std.specs.Prelude.{◌≡◌, ◌<◌, ◌≤◌, Bool, IfNone, IfOk, IsOk, OnErr, String, [], length, string_eq};
+ghost use Rattle.vecmap_base.specs.{Asked.{CallableAtPair, CallableOnEach, CallsAtPair}, Kept.RetainsPairs};
 ghost use Rattle.vecmap_base.specs.{Lookups.KeepsFront, Pairs.{HasDistinctKeys, has_text, lookup_by}};
-ghost use Rattle.vecmap_base.specs.Removals.{FindsPair, RemovesAt, RemovesBy, RemovesLast, SwapRemovesAt, SwapRemovesBy};
+ghost use Rattle.vecmap_base.specs.Removals.{FindsPair, RemovesAt, RemovesBy, RemovesLast, SplitsAt, SwapRemovesAt, SwapRemovesBy};
 
 use crate::VecMap;
 use std::alloc::AllocError;
@@ -90,17 +89,11 @@ impl<K, V> VecMap<K, V> {
     /// ```
     pub fn split_off(&mut self, at: usize) -> Result<VecMap<K, V>, AllocError>
         requires within { at ≤ length self.old.entries }
-        ensures front { OnOk result (KeepsFront at self.old.entries self.new.entries) }
-        ensures part { IfOk result (λ part. part.entries ≡ drop at self.old.entries) }
+        ensures split { IfOk result (λ part. SplitsAt at self.old.entries self.new.entries
+            part.entries) }
         ensures capacity { self.new.capacity ≡ self.old.capacity }
         ensures succeeds { at ≡ length self.old.entries → IsOk result }
         ensures err { OnErr result (self.new ≡ self.old) }
-
-        // What follows for lookups, lengths and indices.
-        ensures part_lookups { IfOk result (λ part. (test : K → Bool) → lookup_by test self.old.entries
-            ≡ option_or (lookup_by test self.new.entries) (lookup_by test part.entries)) }
-        ensures part_keys { IfOk result (λ part. keys_of self.new.entries ++ keys_of part.entries
-            ≡ keys_of self.old.entries) }
     {
         Ok(VecMap {
             pairs: self.pairs.split_off(at)?,
@@ -139,26 +132,8 @@ impl<K, V> VecMap<K, V> {
         F: Drop,
         requires callable { CallableOnEach (CallsAtPair F.FnMut)
             (CallableAtPair F.FnMut) f self.old.entries }
-        ensures retained { (g : F) × Kept
-            (CallsAtPair F.FnMut) f self.old.entries self.new.entries g }
+        ensures selection { RetainsPairs (CallsAtPair F.FnMut) f self.old.entries self.new.entries }
         ensures capacity { self.new.capacity ≡ self.old.capacity }
-
-        // What follows for lookups, lengths and indices.
-        ensures lookups { (h : V → Option V) → FiltersValues (CallsAtPair F.FnMut) f h
-            → (test : K → Bool) (eq : K → K → Bool) → HasDistinctKeys eq self.old.entries
-            → IsKeyTest eq test → lookup_by test self.new.entries
-            ≡ option_and_then h (lookup_by test self.old.entries) }
-        ensures selected { (test : K → Bool) (kept : Bool)
-            → ReturnsAtKey (CallsAtPair F.FnMut) f test kept → lookup_by test self.new.entries
-            ≡ (if kept then lookup_by test self.old.entries else None) }
-        ensures stays { (test : K → Bool) → ReturnsAtKey (CallsAtPair F.FnMut) f test true
-            → lookup_by test self.new.entries ≡ lookup_by test self.old.entries }
-        ensures gone { (test : K → Bool) → ReturnsAtKey (CallsAtPair F.FnMut) f test false
-            → lookup_by test self.new.entries ≡ None }
-        ensures distinct { (eq : K → K → Bool) → HasDistinctKeys eq self.old.entries
-            → HasDistinctKeys eq self.new.entries }
-        ensures left { Retains
-            (CallsAtPair F.FnMut) f self.old.entries self.new.entries }
     {
         retain_pairs(&mut self.pairs, f);
     }

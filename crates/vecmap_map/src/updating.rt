@@ -1,8 +1,6 @@
-//! Calls that write each value by a closure.
-ghost use Rattle.std.specs.{Prelude.{◌≡◌, ◌<◌, ℕ, Bool, IfErr, IsSome, Ok, OnOk, Some, length, map}, List.All, Map.{keys_of, values_of}};
-ghost use Rattle.std.specs.Option.{option_map};
-ghost use Rattle.vecmap_base.specs.{Indices.KeepsIndices, Pairs.{index_by, lookup_by, map_values, value_at}};
-ghost use Rattle.vecmap_base.specs.Updated.{AlwaysComputes, CallableOnValues, Computes, StoppedAt, Updated, WritesValueAt};
+//! Calls that write each value.
+ghost use Rattle.std.specs.Prelude.{◌≡◌, IfErr, Ok, OnOk};
+ghost use Rattle.vecmap_base.specs.{Indices.KeepsIndices, Updated.{CallableOnValues, SetsValues, StoppedAt, UpdatesPairs, WritesValueAt}};
 
 use crate::VecMap;
 use vecmap_base::{try_update_pairs, update_pairs};
@@ -24,16 +22,8 @@ impl<K, V> VecMap<K, V> {
     pub fn set_values(&mut self, value: V)
     where
         V: Copy + Drop,
-        ensures entries { self.new.entries ≡ map_values (λ _. value) self.old.entries }
+        ensures update { SetsValues value self.old.entries self.new.entries }
         ensures capacity { self.new.capacity ≡ self.old.capacity }
-
-        // What follows for lookups, lengths and indices.
-        ensures lookups { (test : K → Bool) → IsSome (lookup_by test self.old.entries)
-            → lookup_by test self.new.entries ≡ Some value }
-        ensures values { All (λ v. v ≡ value) (values_of self.new.entries) }
-        ensures keys { KeepsIndices self.old.entries self.new.entries }
-        ensures at { (i : ℕ) → i < length self.old.entries
-            → value_at self.new.entries i ≡ Some value }
     {
         self.update_values(|_key, old| *old = value);
     }
@@ -69,24 +59,9 @@ impl<K, V> VecMap<K, V> {
     where
         F: Drop,
         requires callable { CallableOnValues F.FnMut tt f self.old.entries }
+        ensures update { UpdatesPairs
+            (WritesValueAt F.FnMut tt) f self.old.entries self.new.entries }
         ensures capacity { self.new.capacity ≡ self.old.capacity }
-        ensures written { (h : K × V → K × V) → Computes (WritesValueAt F.FnMut tt) f h
-            → self.new.entries ≡ map h self.old.entries }
-        ensures written_in_any_state { (h : K × V → K × V)
-            → AlwaysComputes (WritesValueAt F.FnMut tt) h
-            → self.new.entries ≡ map h self.old.entries }
-        ensures updated { (g : F) × Updated
-            (WritesValueAt F.FnMut tt) f self.old.entries self.new.entries g }
-
-        // What follows for lookups, lengths and indices.
-        ensures keys { keys_of self.new.entries ≡ keys_of self.old.entries }
-        ensures len { length self.new.entries ≡ length self.old.entries }
-        ensures lookups { (h : V → V)
-            → Computes (WritesValueAt F.FnMut tt) f (λ pair. (pair.0, h pair.1))
-            → (test : K → Bool)
-            → lookup_by test self.new.entries ≡ option_map h (lookup_by test self.old.entries) }
-        ensures indices { (test : K → Bool) → index_by test self.new.entries
-            ≡ index_by test self.old.entries }
     {
         update_pairs(&mut self.pairs, f);
     }
@@ -132,26 +107,13 @@ impl<K, V> VecMap<K, V> {
     where
         F: Drop,
         requires callable { CallableOnValues F.FnMut (Ok tt) f self.old.entries }
-        ensures capacity { self.new.capacity ≡ self.old.capacity }
-        ensures written { (h : K × V → K × V) → Computes (WritesValueAt F.FnMut (Ok tt)) f h
-            → OnOk result (self.new.entries ≡ map h self.old.entries) }
-        ensures written_in_any_state { (h : K × V → K × V)
-            → AlwaysComputes (WritesValueAt F.FnMut (Ok tt)) h
-            → OnOk result (self.new.entries ≡ map h self.old.entries) }
-        ensures ok { OnOk result ((g : F) × Updated
-            (WritesValueAt F.FnMut (Ok tt)) f self.old.entries self.new.entries g) }
+        ensures ok { OnOk result (UpdatesPairs
+            (WritesValueAt F.FnMut (Ok tt)) f self.old.entries self.new.entries) }
         ensures err { IfErr result (λ e. StoppedAt F.FnMut e f self.old.entries self.new.entries) }
+        ensures capacity { self.new.capacity ≡ self.old.capacity }
 
         // What follows for lookups, lengths and indices.
-        ensures keys { keys_of self.new.entries ≡ keys_of self.old.entries }
-        ensures len { length self.new.entries ≡ length self.old.entries }
-        ensures lookups { (h : V → V)
-            → Computes (WritesValueAt F.FnMut (Ok tt)) f (λ pair. (pair.0, h pair.1))
-            → (test : K → Bool)
-            → OnOk result (lookup_by test self.new.entries
-            ≡ option_map h (lookup_by test self.old.entries)) }
-        ensures indices { (test : K → Bool) → index_by test self.new.entries
-            ≡ index_by test self.old.entries }
+        ensures keys { KeepsIndices self.old.entries self.new.entries }
     {
         try_update_pairs(&mut self.pairs, f)
     }

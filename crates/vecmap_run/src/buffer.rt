@@ -1,4 +1,5 @@
-//! A buffer in front of a writer, so that a short answer needs one write.
+//! A buffer in front of a writer, so that a short answer needs one write. Unlike std's `BufWriter`, it allocates
+//! nothing: the program cannot run out of memory before it reads a line.
 ghost use Rattle.std.specs.{Io.KnownBytes.Appends, Prelude.{◌≡◌, ◌∷◌, [], OnOk}};
 ghost use Rattle.vecmap_run.specs.Buffer.{buffer_bytes};
 

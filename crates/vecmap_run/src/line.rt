@@ -1,4 +1,4 @@
-//! The line that is being read.
+//! The line that is being read. Its length has a limit, unlike a line of std's `read_line`.
 ghost use Rattle.std.specs.Prelude.{◌≡◌, ◌++◌, ◌∷◌, [], List, ℕ, None, Option, Some, ◌==◌, length, if◌then◌else◌, option_copied};
 ghost use Rattle.vecmap_run.specs.Lines.{within_limit};
 

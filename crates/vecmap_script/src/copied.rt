@@ -3,7 +3,6 @@
 ghost use Rattle.std.specs.{Prelude.nat_eq, Cmp.{nat_eq_equiv, partial_equiv_from_equiv}};
 
 use crate::set::Set;
-use std::alloc::AllocError;
 use vecmap_script_base::given::Hinted;
 use vecmap_script_base::words::number_after;
 use vecmap_script_base::{Call, Item, Out, Outcome, again};
@@ -35,31 +34,39 @@ impl Eq for Plain {
 pub fn extend(set: &mut Set, out: &mut Out, call: Call) -> Option<Outcome> {
     let (hint, words) = number_after("hint ", call.args);
     let items: Vec<Item> = out.read_list(words)?;
-    let items = again!(plain_items(out, &items));
-    let mut plain = VecSet::from(again!(plain_items(out, set.as_slice())));
-    again!(plain.reserve_exact(set.capacity().saturating_sub(set.len())));
+    let items = plain_items(out, &items)?;
+    let mut plain = plain_set(out, set)?;
     let lent = Hinted::lent(out, &items, hint)?;
-    let extended = match call.name {
-        "extend_copied" => plain.extend_copied(lent),
-        "Extend_copied" => Extend::extend(&mut plain, lent),
-        _ => return None,
+    let extended = if call.name == "extend_copied" {
+        plain.extend_copied(lent)
+    } else {
+        Extend::extend(&mut plain, lent)
     };
+    give_back(set, out, &plain)?;
+    out.settle(extended)
+}
+
+fn plain_set(out: &Out, set: &Set) -> Option<VecSet<Plain>> {
+    let mut plain = VecSet::from(plain_items(out, set.as_slice())?);
+    again!(plain.reserve_exact(set.capacity().saturating_sub(set.len())));
+    Some(plain)
+}
+
+fn give_back(set: &mut Set, out: &Out, plain: &VecSet<Plain>) -> Option<()> {
     *set = again!(VecSet::with_capacity(out.alloc, plain.capacity()));
-    for item in &plain {
-        set.insert(Item::logged(out.log, item.number, item.mark)?)
-            .ok()?;
+    for item in plain {
+        let item = Item::logged(out.log, item.number, item.mark)?;
+        set.insert(item).ok()?;
     }
-    Some(out.settle(extended))
+    Some(())
 }
 
 // Returns copies without spare capacity.
-fn plain_items(out: &Out, items: &[Item]) -> Result<Vec<Plain>, AllocError> {
-    let mut copies = Vec::with_capacity(out.alloc, items.len())?;
+fn plain_items(out: &Out, items: &[Item]) -> Option<Vec<Plain>> {
+    let mut copies = again!(Vec::with_capacity(out.alloc, items.len()));
     for item in items {
-        copies.push(Plain {
-            number: item.number,
-            mark: item.mark,
-        })?;
+        let (number, mark) = (item.number, item.mark);
+        copies.push(Plain { number, mark }).ok()?;
     }
-    Ok(copies)
+    Some(copies)
 }

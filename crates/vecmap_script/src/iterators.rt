@@ -8,8 +8,8 @@ use vecmap_script_base::pulls::{Pulls, pull, pull_lazy, pull_mut, pull_twice};
 use vecmap_script_base::words::{index_below, index_within};
 use vecmap_script_base::{Call, Item, Out, Outcome, drain, first_word};
 
-// Of a mixture, the drain is of a clone, and of the items between the first and the last.
-macro_rules! drains {
+// The calls of a drain. Of a mixture, it is of a clone, and of the items between the first and the last.
+macro_rules! pull_drain {
     ($drained:ident, $all:ident, $out:ident, $pulls:ident) => {
         match $pulls {
             Pulls::Words(words) => {
@@ -44,14 +44,14 @@ pub fn of_map(map: &mut Map, out: &mut Out, call: Call) -> Option<Outcome> {
 pub fn of_set(set: &mut Set, other: &Set, out: &mut Out, call: Call) -> Option<Outcome> {
     let mut outcome = Outcome::Granted;
     for number in 0..Pulls::count(call.args) {
-        outcome = of_one_set(set, other, out, call.name, Pulls::of(call.args, number))?;
+        outcome = of_sets(set, other, out, call.name, Pulls::of(call.args, number))?;
     }
     Some(outcome)
 }
 
 // The iterators of a map that lend.
 fn lent(map: &mut Map, out: &mut Out, name: &str, pulls: Pulls) -> Option<Outcome> {
-    Some(match name {
+    match name {
         "iter" => pull_twice(out, map.iter(), pulls, Clone::clone),
         "keys" => pull_twice(out, map.keys(), pulls, Clone::clone),
         "values" => pull_twice(out, map.values(), pulls, Clone::clone),
@@ -61,40 +61,36 @@ fn lent(map: &mut Map, out: &mut Out, name: &str, pulls: Pulls) -> Option<Outcom
         "keys_mut" => pull_mut(out, map.keys_mut(), pulls),
         "&map" => pull(out, &mut (&*map).into_iter(), pulls),
         "&mut_map" => pull_mut(out, (&mut *map).into_iter(), pulls),
-        _ => return owning(map, out, name, pulls),
-    })
+        "drain" => drain_map(map, out, pulls),
+        _ => owning(copy(map, out)?, out, name, pulls),
+    }
 }
 
-// Those that take the pairs. Except for a drain with words, they are given a clone of the map.
-fn owning(map: &mut Map, out: &mut Out, name: &str, pulls: Pulls) -> Option<Outcome> {
-    Some(match name {
-        "into_iter" => pull_twice(out, copy(map, out)?.into_iter(), pulls, |it| it.clone()),
-        "into_keys" => pull_twice(out, copy(map, out)?.into_keys(), pulls, |it| it.clone()),
-        "into_values" => pull_twice(out, copy(map, out)?.into_values(), pulls, |it| it.clone()),
-        "drain" => drains!(drained_map, map, out, pulls),
-        _ => return None,
-    })
+// Those that take the pairs of a clone.
+fn owning(map: Map, out: &mut Out, name: &str, pulls: Pulls) -> Option<Outcome> {
+    match name {
+        "into_iter" => pull_twice(out, map.into_iter(), pulls, |it| it.clone()),
+        "into_keys" => pull_twice(out, map.into_keys(), pulls, |it| it.clone()),
+        "into_values" => pull_twice(out, map.into_values(), pulls, |it| it.clone()),
+        _ => None,
+    }
 }
 
-fn of_one_set(
-    set: &mut Set,
-    other: &Set,
-    out: &mut Out,
-    name: &str,
-    pulls: Pulls,
-) -> Option<Outcome> {
-    Some(match name {
+fn drain_map(map: &mut Map, out: &mut Out, pulls: Pulls) -> Option<Outcome> {
+    pull_drain!(drained_map, map, out, pulls)
+}
+
+fn drain_set(set: &mut Set, out: &mut Out, pulls: Pulls) -> Option<Outcome> {
+    pull_drain!(drained_set, set, out, pulls)
+}
+
+// The iterators of one set, and of two.
+fn of_sets(set: &mut Set, other: &Set, out: &mut Out, name: &str, pulls: Pulls) -> Option<Outcome> {
+    match name {
         "iter" => pull_twice(out, set.iter(), pulls, Clone::clone),
         "&set" => pull(out, &mut (&*set).into_iter(), pulls),
         "into_iter" => pull_twice(out, copy(set, out)?.into_iter(), pulls, |it| it.clone()),
-        "drain" => drains!(drained_set, set, out, pulls),
-        _ => return lazy(set, other, out, name, pulls),
-    })
-}
-
-// The iterators of two sets.
-fn lazy(set: &Set, other: &Set, out: &mut Out, name: &str, pulls: Pulls) -> Option<Outcome> {
-    match name {
+        "drain" => drain_set(set, out, pulls),
         "difference" => pull_lazy(out, set.difference(other), pulls, |it| it.clone()),
         "intersection" => pull_lazy(out, set.intersection(other), pulls, |it| it.clone()),
         "symmetric_difference" => {

@@ -12,7 +12,7 @@ pub fn on_map(map: &mut Map, out: &mut Out, words: &str) -> Option<Outcome> {
     let commands = read_commands(out, words)?;
     out.begin();
     let replies = run(out.alloc, map, commands);
-    Some(show_replies(out, replies))
+    show(out, replies)
 }
 
 /// Runs the commands on a set.
@@ -20,10 +20,10 @@ pub fn on_set(set: &mut Set, out: &mut Out, words: &str) -> Option<Outcome> {
     let commands = read_commands(out, words)?;
     out.begin();
     let replies = run_set(out.alloc, set, commands);
-    Some(show_replies(out, replies))
+    show(out, replies)
 }
 
-fn show_replies<R: Debug + Drop>(out: &mut Out, replies: Result<Vec<R>, AllocError>) -> Outcome {
+fn show<R: Debug + Drop>(out: &mut Out, replies: Result<Vec<R>, AllocError>) -> Option<Outcome> {
     out.log.end();
     match replies {
         Ok(replies) => {
@@ -33,7 +33,7 @@ fn show_replies<R: Debug + Drop>(out: &mut Out, replies: Result<Vec<R>, AllocErr
                 }
                 let _ = write!(out.answer, "{reply:?}");
             }
-            Outcome::Granted
+            Some(Outcome::Granted)
         }
         Err(error) => out.refuse(error),
     }
@@ -58,13 +58,13 @@ fn read_commands<C: Command>(out: &Out, words: &str) -> Option<Vec<C>> {
 macro_rules! command {
     ($name:ident, $Command:ident: $($Variant:ident)+, else $rest:expr) => {
         match $name {
-            $(name if name == stringify!($Variant) => Some($Command::$Variant),)+
+            $(stringify!($Variant) => Some($Command::$Variant),)+
             _ => $rest,
         }
     };
     ($name:ident, $Command:ident: $($Variant:ident)+; $args:tt, else $rest:expr) => {
         match $name {
-            $(name if name == stringify!($Variant) => Some($Command::$Variant $args),)+
+            $(stringify!($Variant) => Some($Command::$Variant $args),)+
             _ => $rest,
         }
     };
@@ -72,32 +72,33 @@ macro_rules! command {
 
 impl Command for MapCommand<Item, Item> {
     fn read(out: &Out, name: &str, args: &str) -> Option<MapCommand<Item, Item>> {
-        command!(name, MapCommand: First Last Len Pop Clear Reverse ToVec,
-            else map_command_of_index(out, name, args))
+        let Ok(index) = args.parse() else {
+            return command!(name, MapCommand: First Last Len Pop Clear Reverse ToVec,
+                else map_command_of_two(out, name, args));
+        };
+        command!(name, MapCommand: GetIndex RemoveIndex SwapRemoveIndex Truncate SplitOff; (index),
+            else map_command_of_two(out, name, args))
     }
-}
-
-fn map_command_of_index(out: &Out, name: &str, args: &str) -> Option<MapCommand<Item, Item>> {
-    command!(name, MapCommand: GetIndex RemoveIndex SwapRemoveIndex Truncate SplitOff;
-        (args.parse().ok()?), else map_command_of_two(out, name, args))
 }
 
 // The commands of two arguments, or of a list.
 fn map_command_of_two(out: &Out, name: &str, args: &str) -> Option<MapCommand<Item, Item>> {
     let (first, rest) = first_word(args);
-    Some(match name {
-        "SwapIndices" => MapCommand::SwapIndices(first.parse().ok()?, rest.parse().ok()?),
+    match name {
+        "SwapIndices" => Some(MapCommand::SwapIndices(first.parse().ok()?, rest.parse().ok()?)),
         "InsertAt" => {
             let (index, (key, value)) = (first.parse().ok()?, out.read(rest)?);
-            MapCommand::InsertAt(index, key, value)
+            Some(MapCommand::InsertAt(index, key, value))
         }
         "Insert" | "InsertFull" | "InsertKey" | "OrInsert" => {
-            return map_command_of_pair(name, out.read(args)?);
+            map_command_of_pair(name, out.read(args)?)
         }
-        "Append" => MapCommand::Append(VecMap::from(out.read_list(args)?)),
-        "Equals" => MapCommand::Equals(VecMap::from(out.read_list(args)?)),
-        _ => return map_command_of_key(name, out.read(args)?),
-    })
+        "Append" | "Equals" => {
+            let other = VecMap::from(out.read_list(args)?);
+            command!(name, MapCommand: Append Equals; (other), else None)
+        }
+        _ => map_command_of_key(name, out.read(args)?),
+    }
 }
 
 fn map_command_of_pair(name: &str, (key, value): Pair) -> Option<MapCommand<Item, Item>> {
@@ -111,26 +112,32 @@ fn map_command_of_key(name: &str, key: Item) -> Option<MapCommand<Item, Item>> {
 
 impl Command for SetCommand<Item> {
     fn read(out: &Out, name: &str, args: &str) -> Option<SetCommand<Item>> {
-        command!(name, SetCommand: First Last Len Pop Clear Reverse ToVec,
-            else set_command_of_index(out, name, args))
+        let Ok(index) = args.parse() else {
+            return command!(name, SetCommand: First Last Len Pop Clear Reverse ToVec,
+                else set_command_of_two(out, name, args));
+        };
+        command!(name, SetCommand: GetIndex RemoveIndex SwapRemoveIndex Truncate SplitOff; (index),
+            else set_command_of_two(out, name, args))
     }
 }
 
-fn set_command_of_index(out: &Out, name: &str, args: &str) -> Option<SetCommand<Item>> {
+// The commands of two indices, of a list, or of an element.
+fn set_command_of_two(out: &Out, name: &str, args: &str) -> Option<SetCommand<Item>> {
     if name == "SwapIndices" {
         let (first, rest) = first_word(args);
         return Some(SetCommand::SwapIndices(first.parse().ok()?, rest.parse().ok()?));
     }
-    command!(name, SetCommand: GetIndex RemoveIndex SwapRemoveIndex Truncate SplitOff;
-        (args.parse().ok()?), else set_command_of_element(out, name, args))
-}
-
-fn set_command_of_element(out: &Out, name: &str, args: &str) -> Option<SetCommand<Item>> {
-    command!(name, SetCommand: Insert Replace Get IndexOf Contains Remove Take SwapRemove SwapTake;
-        (out.read(args)?), else set_command_of_set(name, VecSet::from(out.read_list(args)?)))
+    match set_command_of_set(name, VecSet::from(out.read_list(args)?)) {
+        None => set_command_of_element(name, out.read(args)?),
+        command => command,
+    }
 }
 
 fn set_command_of_set(name: &str, other: Set) -> Option<SetCommand<Item>> {
     command!(name, SetCommand: Append Equals IsSubset IsSuperset IsDisjoint Intersect Unite
         Exclusive Subtract; (other), else None)
+}
+
+fn set_command_of_element(name: &str, item: Item) -> Option<SetCommand<Item>> {
+    command!(name, SetCommand: Insert Replace Get IndexOf Contains Remove Take SwapRemove SwapTake; (item), else None)
 }

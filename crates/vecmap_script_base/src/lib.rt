@@ -15,5 +15,5 @@ pub mod words;
 
 pub use item::Item;
 pub use log::Log;
-pub use out::{MakeError, Out, Outcome};
+pub use out::{MakeError, Out, Outcome, printed};
 pub use row::{Call, Row, first_word};

@@ -9,7 +9,7 @@ use vecmap_base::{
 };
 
 pub fn gather(out: &mut Out, call: Call) -> Option<Outcome> {
-    Some(match call.name {
+    match call.name {
         "keys_distinct" => out.show(keys_distinct(&out.read_list::<Pair>(call.args)?)),
         "items_distinct" => out.show(items_distinct(&out.read_list::<Item>(call.args)?)),
         "gather_pairs" => {
@@ -24,41 +24,36 @@ pub fn gather(out: &mut Out, call: Call) -> Option<Outcome> {
             out.add((kept, steps.count()));
             out.show(items.as_slice())
         }
-        _ => return None,
-    })
+        _ => None,
+    }
 }
 
 /// Searches a list for the first word. A reference is as short as a number, and is searched for in another way.
 pub fn search(out: &mut Out, call: Call) -> Option<Outcome> {
     let (first, words) = call.split();
-    Some(match call.name {
-        "find" => {
-            let pairs: Vec<Pair> = out.read_list(words)?;
-            out.show(find(&pairs, &Item::query(first)?))
-        }
-        "find_item" => {
-            let items: Vec<Item> = out.read_list(words)?;
-            out.show(find_item(&items, &Item::query(first)?))
-        }
-        "find_by_reference" | "find_item_by_reference" | "contains_by_reference" => {
-            let items: Vec<Item> = out.read_list(words)?;
-            by_reference(out, call.name, &items, &Item::query(first)?)?
-        }
-        _ => return None,
-    })
+    let query = Item::query(first)?;
+    if call.name == "find" {
+        let pairs: Vec<Pair> = out.read_list(words)?;
+        return out.show(find(&pairs, &query));
+    }
+    let items: Vec<Item> = out.read_list(words)?;
+    if call.name == "find_item" {
+        return out.show(find_item(&items, &query));
+    }
+    by_reference(out, call.name, &items, &query)
 }
 
 fn by_reference(out: &mut Out, name: &str, items: &[Item], query: &Item) -> Option<Outcome> {
     let references = again!(references(out.alloc, items));
-    Some(match name {
+    match name {
         "find_item_by_reference" => out.show(find_item(&references, &query)),
         "contains_by_reference" => out.show(contains_item(&references, &query)),
         "find_by_reference" => {
             let pairs = again!(pairs_of(out.alloc, items));
             out.show(find(&pairs, &query))
         }
-        _ => return None,
-    })
+        _ => None,
+    }
 }
 
 // Returns pairs of references to the items.

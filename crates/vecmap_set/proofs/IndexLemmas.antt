@@ -1,17 +1,19 @@
 -- At which indices elements and queries find their match after a change, in the words of contracts.
 use Rattle.std.specs.{Cmp.IsEquivalence, List.AllByRecursion, List.IsDistinct, Map.IsKeyTest, Borrow.Bor, List.list_any}
-use Rattle.std.specs.{Prelude.{IfSome, IfOk, Err, Ok, Result, nat_eq, nat_lt, option_copied}, List.swap_remove, Option.option_map_or}
-use Rattle.std.proofs.Common.{◌≡◌, ◌∙◌, ◌++◌, ◌<◌, ◌-◌, ◌≤◌, ℕ, suc, zero, Bool, true, false, List, [], ◌∷◌, None, Option, Some, ap, arith, cond, drop, get_or, get_or-take, inl, inr, length, length-set, option_map, position, refl, remove, set, slice_get, swap, sym, take, is_some}
-use Rattle.std.proofs.{lemmas.Bool.{cases_Bool, cases_lt, le-ltb, lt-ltb, ltb-true}, lemmas.Grind.get_or-set_at, lemmas.List.length-take-le}
-use Rattle.std.proofs.{lemmas.List.Quantifiers.position-Some, lemmas.Map.Keys.{IsDistinct-head, IsDistinct-tail}}
-use Rattle.std.proofs.lemmas.Option.{none-some, slice_get-get_or}
-use Rattle.vecmap_base.specs.Items.{moved, put_item, swap_without, item_index}
+use Rattle.std.specs.{Prelude.{IfSome, IfOk, IsTrue, Err, Ok, Result, nat_lt, option_copied}, List.swap_remove, Option.option_map_or}
+use Rattle.std.proofs.Common.{◌≡◌, ◌∙◌, ◌++◌, ◌<◌, ◌-◌, ◌≤◌, ℕ, suc, zero, Bool, true, false, List, [], ◌∷◌, None, Option, Some, ap, arith, get_or, get_or-take, length, length-set, position, refl, remove, set, slice_get, sym, take, is_some}
+use Rattle.std.proofs.lemmas.{Bool.{cases_Bool, cases_lt, le-ltb, lt-ltb, ltb-true}, Grind.get_or-set_at, List.length-take-le}
+use Rattle.std.proofs.lemmas.{Map.Keys.{IsDistinct-head, IsDistinct-tail}, Option.{none-some, slice_get-get_or, slice_get_within}}
+use Rattle.vecmap_base.specs.Items.{put_item, swap_without, item_index}
 use Rattle.vecmap_base.proofs.IndexLemmas.{position_cons, later, list_any_position, position_front, position_stays}
 use Rattle.vecmap_base.proofs.ItemsLemmas.Recursion.{put_item_cons}
-use Rattle.vecmap_set.specs.Indices.{KeepsMatchIndices, KeepsMatchIndicesBelow, KeepsItemIndices, MovesItemIndex, ShiftsItems}
+use Rattle.vecmap_set.specs.Indices.{FindsAt, KeepsMatchIndices, KeepsMatchIndicesBelow, KeepsItemIndices, MovesItemIndex, ShiftsItems}
 pub use Rattle.vecmap_base.proofs.IndexLemmas.{found_item_at, stored_last}
 
 module _ {T : Type 0} (test : T → Bool) where
+  pub finds_at : (s : List T) (i : ℕ) → position test s ≡ Some i → FindsAt test s i
+  finds_at s i e = let hit = found_item_at test s (Some i) (sym e) in record { index = e; within = slice_get_within s i hit.0 hit.1; at = hit }
+
   module _ (eq : T → T → Bool) (o : IsEquivalence eq) (respects : IsKeyTest eq test) where
     -- Equal elements match the same.
     same_test : (x y : T) → eq x y ≡ true → test y ≡ test x
@@ -20,11 +22,7 @@ module _ {T : Type 0} (test : T → Bool) where
     -- An element that replaces an equal one does not change the index of a match.
     position_put : (s : List T) (x : T) (i : ℕ) → position test s ≡ Some i → position test (put_item eq s x) ≡ Some i
     position_put [] x i e = absurd (none-some i e)
-    position_put (y ∷ ys) x i e = ap (position test) (put_item_cons eq y ys x) ∙ by (eq x y) refl (λ j h n. position_put ys x j h)
-      where
-        by : (b : Bool) → eq x y ≡ b → ((j : ℕ) → position test ys ≡ Some j → suc j ≡ i → position test (put_item eq ys x) ≡ Some j) → position test (cond b (x ∷ ys) (y ∷ put_item eq ys x)) ≡ Some i
-        by true h rest = position_cons test x ys ∙ ap (λ b. cond b (Some 0) (option_map suc (position test ys))) (sym (same_test x y h)) ∙ sym (position_cons test y ys) ∙ e
-        by false h rest = position_cons test y (put_item eq ys x) ∙ later test (test y) (position test ys) (position test (put_item eq ys x)) i rest (sym (position_cons test y ys) ∙ e)
+    position_put (y ∷ ys) x i e = grind (arith, cases_Bool, position_cons, put_item_cons, same_test, later, (position_put ys x))
 
     -- No later element of a distinct list matches what its first element matches.
     misses : (y : T) (ys : List T) → test y ≡ true → AllByRecursion (λ z. eq y z ≡ false) ys → (i : ℕ) (x : T) → slice_get ys i ≡ Some x → test x ≡ true → ⊥
@@ -34,19 +32,9 @@ module _ {T : Type 0} (test : T → Bool) where
 
     -- In a distinct list, an element that matches a query is the first that does.
     pub position_own : (s : List T) → IsDistinct eq s → (i : ℕ) (x : T) → slice_get s i ≡ Some x → test x ≡ true → position test s ≡ Some i
-    position_own [] d i x at hit = absurd (none-some x at)
-    position_own (y ∷ ys) d zero x at hit =
-        let f : Some y ≡ Some x = at in
-        let same : y ≡ x = cc in
-        position_cons test y ys ∙ ap (λ b. cond b (Some 0) (option_map suc (position test ys))) (ap test same ∙ hit)
-    position_own (y ∷ ys) d (suc i) x at hit =
-        elim (cases_Bool (test y)) [
-          | inl h ↦ absurd (misses y ys h (IsDistinct-head eq y ys d) i x at hit)
-          | inr n ↦
-              position_cons test y ys
-              ∙ ap (λ b. cond b (Some 0) (option_map suc (position test ys))) n
-              ∙ ap (option_map suc) (position_own ys (IsDistinct-tail eq y ys d) i x at hit)
-        ]
+    position_own [] d i x at hit = grind (arith, none-some)
+    position_own (y ∷ ys) d zero x at hit = grind (arith, cases_Bool, position_cons)
+    position_own (y ∷ ys) d (suc i) x at hit = grind (arith, cases_Bool, position_cons, misses, (IsDistinct-head eq y ys d), (position_own ys (IsDistinct-tail eq y ys d) i x at hit))
 
     -- What is found at the index `i` of a list is found where a distinct list has that element.
     position_moved : (s r : List T) (i j : ℕ) → slice_get r j ≡ slice_get s i → IsDistinct eq r → position test s ≡ Some i → position test r ≡ Some j
@@ -108,9 +96,9 @@ module _ {T : Type 0} (eq : T → T → Bool) (o : IsEquivalence eq) (s : List T
   index_of_read i None within e = tt
   index_of_read i (Some x) within e = index_at i x.now (slice_get-get_or s i x.now (ltb-true i (length s) (sym within)) ∙ ap Some (sym e))
 
-  pub index_searched : (k : T) (r : Result ℕ ℕ) → IfOk r (λ i. (x : T) × (slice_get s i ≡ Some x) × (eq k x ≡ true)) → IfOk r (λ i. item_index eq s k ≡ Some i)
-  index_searched k (Ok i) found = position_own (eq k) eq o (o.congr k) s d i found.0 found.1 found.2
-  index_searched k (Err i) found = tt
+  pub finds_searched : (k : T) (r : Result ℕ ℕ) → IfOk r (λ i. (x : T) × (slice_get s i ≡ Some x) × IsTrue (eq k x)) → IfOk r (FindsAt (eq k) s)
+  finds_searched k (Ok i) found = finds_at (eq k) s i (position_own (eq k) eq o (o.congr k) s d i found.0 found.1 found.2)
+  finds_searched k (Err i) found = tt
 
 -- The clauses `indices` and `present`, from the list afterwards.
 module _ {T : Type 0} (s r : List T) where
@@ -119,9 +107,6 @@ module _ {T : Type 0} (s r : List T) where
 
   pub indices_appended : (xs : List T) → r ≡ s ++ xs → KeepsMatchIndices s r
   indices_appended xs e test i h = ap (position test) e ∙ position_front test xs s i h
-
-  pub indices_of_removed : (i : ℕ) → r ≡ remove s i → KeepsMatchIndicesBelow i s r
-  indices_of_removed i e test j h l = ap (position test) e ∙ position_front test (drop (suc i) s) (take i s) j (position_stays test i s j h l)
 
   pub indices_of_front : (n : ℕ) → r ≡ take n s → KeepsMatchIndicesBelow n s r
   indices_of_front n e test i h l = ap (position test) e ∙ position_stays test n s i h l
@@ -138,6 +123,3 @@ module _ {T : Type 0} (eq : T → T → Bool) (o : IsEquivalence eq) (s r : List
 
   pub index_moved : (i j : ℕ) → slice_get r j ≡ slice_get s i → IsDistinct eq r → MovesItemIndex eq i j s r
   index_moved i j at d = grind (arith, position_moved)
-
--- The lemmas for the clauses `indices` of calls that append and remove at the end.
-pub ruleset at_end = (indices_stay, indices_appended, indices_of_front, present_in_front)

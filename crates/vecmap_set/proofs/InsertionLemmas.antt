@@ -1,45 +1,53 @@
 -- The records of insertions, from the list that is left.
-use Rattle.std.specs.{Cmp.IsEquivalence, Option.option_and_then, Option.option_map_or, Set.is_member}
-use Rattle.std.proofs.Common.{◌≡◌, ◌∙◌, ◌++◌, ◌+◌, ℕ, Bool, true, false, List, [], ◌∷◌, None, Option, Some, IsTrue, ap, arith, if◌then◌else◌, inl, inr, is_some, length, length-append, not, position, refl, slice_get, slice_set, sym, true≢false}
+use Rattle.std.specs.{Cmp.IsEquivalence, List.list_any, Map.IsKeyTest, Option.option_map_or, Set.is_member}
+use Rattle.std.proofs.Common.{◌≡◌, ◌∙◌, ◌++◌, ◌+◌, ℕ, Bool, true, false, List, [], ◌∷◌, None, Option, Some, IsTrue, ap, arith, if◌then◌else◌, inl, inr, is_some, length, length-append, not, position, refl, slice_set, subst, sym, true≢false}
 use Rattle.std.proofs.{lemmas.Bool.cases_Bool, lemmas.List.length-set}
-use Rattle.vecmap_base.specs.Items.{add, put_item, stored_item}
-use Rattle.vecmap_base.proofs.{IndexLemmas.{list_any_position, list_any_stored, stored_last}, ItemsLemmas.Changes.members_of_put}
-use Rattle.vecmap_base.proofs.{ItemsLemmas.Additions.{add_absent, add_present}, ItemsLemmas.Members.members_of_add}
-use Rattle.vecmap_set.specs.{Indices.KeepsMatchIndices, Insertions.{AddsItem, PutsItem}}
+use Rattle.vecmap_base.specs.{Items.{add, put_item}, Lookups.UpdatesMember}
+use Rattle.vecmap_base.proofs.{IndexLemmas.{list_any_position, list_any_stored, position_none, stored_last}, ItemsLemmas.Changes.members_of_put}
+use Rattle.vecmap_base.proofs.{ItemsLemmas.Additions.add_absent, ItemsLemmas.Members.{members_appended_by, members_matched}}
+use Rattle.vecmap_set.specs.Insertions.{AddsItem, AddsItemBy, PutsItem}
 use Rattle.vecmap_set.proofs.{IndexLemmas.{indices_appended, indices_of_put, indices_stay}, QueryLemmas.{any_of_add, any_of_put}}
 
 module _ {T : Type 0} (eq : T → T → Bool) (o : IsEquivalence eq) (s r : List T) (x : T) where
+  module _ (test : T → Bool) (respects : IsKeyTest eq test) where
+    pub adds_item_by : IsTrue (test x) → r ≡ (if list_any test s then s else s ++ x ∷ []) → AddsItemBy eq test s r
+    adds_item_by hit e =
+        elim (cases_Bool (list_any test s)) [
+          | inl h ↦
+              let same : r ≡ s = e ∙ ap (λ b. if b then s else s ++ x ∷ []) h in
+              record {
+                elements = (x, hit, e);
+                updates = subst (λ l. UpdatesMember eq test s l true) (sym same) (members_matched eq o test respects s h);
+                len = rw h (let long = ap length same in omega (arith, long));
+                indices = indices_stay s r same;
+              }
+          | inr n ↦
+              let more : r ≡ s ++ x ∷ [] = e ∙ ap (λ b. if b then s else s ++ x ∷ []) n in
+              record {
+                elements = (x, hit, e);
+                updates = members_appended_by eq o test respects s r x more (position_none test s n) hit;
+                len = rw n (ap length more ∙ length-append s (x ∷ []));
+                indices = indices_appended s r (x ∷ []) more;
+              }
+        ]
+
   is_new : (b : Bool) → IsTrue (not b) → b ≡ false
   is_new true h = absurd (true≢false (sym h))
   is_new false h = refl
 
   pub adds_item : r ≡ add eq s x → AddsItem eq s x r
-  adds_item e = record {
-    elements = e;
-    updates = members_of_add eq o s r x e;
-    any = any_of_add eq s r x e;
-    appended = appended;
-    at = λ new. stored_last s r x (appended new);
-    len = len;
-    indices = indices;
-  }
-    where
-      appended : IsTrue (not (is_member eq s x)) → r ≡ s ++ x ∷ []
-      appended new = e ∙ add_absent eq s x (is_new (is_member eq s x) new)
-
-      len : length r ≡ length s + (if not (is_member eq s x) then 1 else 0)
-      len =
-          elim (cases_Bool (is_member eq s x)) [
-            | inl h ↦ let same = ap length (e ∙ add_present eq s x h) in rw h (omega (arith, same))
-            | inr n ↦ rw n (ap length (e ∙ add_absent eq s x n) ∙ length-append s (x ∷ []))
-          ]
-
-      indices : KeepsMatchIndices s r
-      indices =
-          elim (cases_Bool (is_member eq s x)) [
-            | inl h ↦ indices_stay s r (e ∙ add_present eq s x h)
-            | inr n ↦ indices_appended s r (x ∷ []) (e ∙ add_absent eq s x n)
-          ]
+  adds_item e =
+      let added = adds_item_by (eq x) (o.congr x) (o.refl x) e in
+      let appended : IsTrue (not (is_member eq s x)) → r ≡ s ++ x ∷ [] = λ new. e ∙ add_absent eq s x (is_new (is_member eq s x) new) in
+      record {
+        elements = e;
+        updates = added.updates;
+        any = any_of_add eq s r x e;
+        appended = appended;
+        at = λ new. stored_last s r x (appended new);
+        len = added.len;
+        indices = added.indices;
+      }
 
   -- The same of a list that a new element was appended to.
   pub adds_new_item : r ≡ s ++ x ∷ [] → is_member eq s x ≡ false → AddsItem eq s x r

@@ -1,12 +1,12 @@
 -- What is taken from an iterator until nothing is left is the list that it had. By induction on the taken items.
-use Rattle.std.proofs.Common.{◌≡◌, ◌+◌, ◌≤◌, ◌&&◌, ◌||◌, ◌⊎◌, Bool, Contains, IsTrue, List, [], ◌∷◌, ◌++◌, Option, Some, ap, arith, false, filter, inl, inr, length, length-append, not, sym, subst, true, ◌∙◌, map}
-use Rattle.std.proofs.lemmas.{Bool.cases_Bool, List.append-nil, List.map_push, List.Elements.AllZip-push, List.Folds.list_any-append}
-use Rattle.std.specs.{Borrow.Bor, Cmp.IsEquivalence, Iterator.Yields, Iterator.YieldsFirstRef, List.IsDistinct, List.list_any, Map.IsKeyTest, Map.Iter.deref, Set.is_member}
+use Rattle.std.proofs.Common.{◌≡◌, ◌+◌, ◌≤◌, ◌&&◌, ◌||◌, Bool, Contains, IsTrue, List, [], ◌∷◌, ◌++◌, Option, Some, ap, arith, false, filter, length, length-append, not, sym, true, ◌∙◌, map}
+use Rattle.std.proofs.lemmas.{List.append-nil, List.map_push, List.Elements.AllZip-push, List.Folds.list_any-append}
+use Rattle.std.specs.{Borrow.Bor, Cmp.IsEquivalence, Iterator.Yields, Iterator.YieldsFirstRef, List.IsDistinct, Map.Iter.deref, Set.is_member}
 use Rattle.vecmap_base.specs.{Clones.AreClones, Items.both, Items.only}
-use Rattle.vecmap_base.proofs.{EqualityLemmas.Relations.is_member_only, ItemsLemmas.Changes.is_member_clones}
-use Rattle.vecmap_base.proofs.PairsLemmas.Lookups.{compares_with}
+use Rattle.vecmap_base.proofs.ItemsLemmas.Changes.{is_member_clones}
 use Rattle.vecmap_set.specs.Operators.{CombinesMembers, DrainsIntoClones, symmetric_difference_of, union_of}
-use Rattle.vecmap_set.proofs.{MemberLemmas.length_of_clones, SetLemmas.distinct_clones_of}
+use Rattle.vecmap_set.proofs.{MemberLemmas.length_of_clones, SetLemmas.{by_queries, distinct_clones_of}}
+pub use Rattle.vecmap_base.proofs.EqualityLemmas.Relations.{distinct_both, distinct_only, distinct_symmetric_difference, distinct_union, is_member_both, is_member_only}
 
 module _ {S T : Type 0} (steps : S → Option (Bor T) → S → Type 0) (rest : S → List T) where
   taken : ((s : S) (r : Option (Bor T)) (t : S) → steps s r t → YieldsFirstRef rest s r t) → (s t : S) (items : List (Bor T)) → Yields steps s items t → rest s ≡ map deref items ++ rest t
@@ -30,11 +30,6 @@ module _ {T : Type 0} (eq : T → T → Bool) (o : IsEquivalence eq) where
   pub is_member_symmetric_difference : (a b : List T) (x : T) → is_member eq (symmetric_difference_of eq a b) x ≡ ((is_member eq a x && not (is_member eq b x)) || (is_member eq b x && not (is_member eq a x)))
   is_member_symmetric_difference a b x = list_any-append (eq x) (only eq a b) (only eq b a) ∙ (λ i. is_member_only eq o a b x i || is_member_only eq o b a x i)
 
-  -- A query matches an element of a list, or none.
-  match_or_none : (test : T → Bool) (l : List T) → ((x : T) × (test x ≡ true)) ⊎ (list_any test l ≡ false)
-  match_or_none test [] = grind (arith, cases_Bool)
-  match_or_none test (x ∷ xs) = grind (arith, cases_Bool, (match_or_none test xs))
-
   filter_short : (p : T → Bool) (xs : List T) → length (filter p xs) ≤ length xs
   filter_short p [] = grind (arith)
   filter_short p (x ∷ xs) = grind (arith, (filter_short p xs))
@@ -57,24 +52,12 @@ module _ {T : Type 0} (eq : T → T → Bool) (o : IsEquivalence eq) where
 
   -- What is said of elements is said of queries: a query that matches something matches the equals of one element.
   pub combined : (combine : Bool → Bool → Bool) → combine false false ≡ false → (a b r : List T) → ((q : T) → is_member eq r q ≡ combine (is_member eq a q) (is_member eq b q)) → Fits combine a b r → CombinesMembers eq combine a b r
-  combined combine nothing a b r members fits = record { members = members; queries = queries; len = fits.0; part = fits.1 }
-    where
-      queries : (test : T → Bool) → IsKeyTest eq test → list_any test r ≡ combine (list_any test a) (list_any test b)
-      queries test respects =
-          let by : (found : (x : T) × (test x ≡ true)) → list_any test r ≡ combine (list_any test a) (list_any test b) = λ found.
-          subst (λ f. list_any f r ≡ combine (list_any f a) (list_any f b)) (sym (compares_with eq o test respects found.0 found.1)) (members found.0) in
-          elim (match_or_none test r) [
-            | inl found ↦ by found
-            | inr none ↦
-                elim (match_or_none test a) [
-                  | inl found ↦ by found
-                  | inr left ↦
-                      elim (match_or_none test b) [
-                        | inl found ↦ by found
-                        | inr right ↦ none ∙ sym nothing ∙ sym (λ i. combine (left i) (right i))
-                      ]
-                ]
-          ]
+  combined combine nothing a b r members fits = record {
+    members = members;
+    queries = by_queries eq o (λ x y z. x ≡ combine y z) (sym nothing) r a b members;
+    len = fits.0;
+    part = fits.1;
+  }
 
   -- What an operator creates, with the members of the set.
   pub with_members : {C : T → T → Type 0} (combine : Bool → Bool → Bool) (list : List T → List T → List T) → combine false false ≡ false → ((a b : List T) (q : T) → is_member eq (list a b) q ≡ combine (is_member eq a q) (is_member eq b q))

@@ -1,15 +1,15 @@
 -- The records of removals of elements, from the list that is left.
 use Rattle.std.specs.{Cmp.IsEquivalence, List.IsDistinct, List.list_any, List.Sorted.IsPermutation, Map.IsKeyTest, Option.option_to_list}
-use Rattle.std.proofs.Common.{◌≡◌, ◌∙◌, ◌&&◌, ◌-◌, ◌++◌, ◌||◌, ℕ, Bool, IsTrue, List, None, Option, Some, IfSome, ◌∷◌, ap, inl, inr, is_some, length, remove, slice_get, sym, subst, take}
-use Rattle.std.proofs.{lemmas.List.length-take, lemmas.List.Sorted.list_any-IsPermutation, lemmas.Map.Keys.IsDistinct-tail}
-use Rattle.vecmap_base.specs.Items.{stored_first, swap_without, swap_without_first, without_first}
-use Rattle.vecmap_base.proofs.{DistinctLemmas.{Order.distinct_rearranged, Removals.distinct_take}, PairsLemmas.Lookups.compares_with}
-use Rattle.vecmap_base.proofs.IndexLemmas.{list_any_position, list_any_stored}
-use Rattle.vecmap_base.proofs.ItemsLemmas.{Changes.matches_of_front, Changes.members_popped, Members.members_of_first, Members.members_removed}
-use Rattle.vecmap_base.proofs.TakenLemmas.{TakesFirst, first_by_shift, first_by_swap, last_read, last_taken, len_of_first, len_popped, one_less, taken_by_shift, taken_by_swap}
-use Rattle.vecmap_set.specs.Removals.{FindsItem, KeepsFrontItems, RemovesItemAt, RemovesItemBy, RemovesLastItem, SwapRemovesItemAt, SwapRemovesItemBy, Takes}
-use Rattle.vecmap_set.specs.Tests.{AgreesOnEquals}
-use Rattle.vecmap_set.proofs.IndexLemmas.{at_swap_removed, index_moved, indices_of_front, indices_of_removed, items_shift, present_in_front}
+use Rattle.std.proofs.Common.{◌≡◌, ◌∙◌, ◌&&◌, ◌-◌, ◌++◌, ◌<◌, ◌≤◌, ◌||◌, ℕ, Bool, IsTrue, List, None, Option, Some, IfSome, ◌∷◌, ap, drop, inl, inr, is_some, length, length-append, remove, slice_get, sym, subst, take}
+use Rattle.std.proofs.{lemmas.List.{length-take, length-take-le, take-append-drop}, lemmas.List.Sorted.list_any-IsPermutation, lemmas.Map.Keys.IsDistinct-tail}
+use Rattle.vecmap_base.specs.{Items.{stored_first, swap_without, swap_without_first, without_first}, Kept.Kept}
+use Rattle.vecmap_base.proofs.{DistinctLemmas.{Order.distinct_rearranged, Removals.{distinct_drop, distinct_take}}, PairsLemmas.{Lookups.compares_with, Retained.length_kept}}
+use Rattle.vecmap_base.proofs.IndexLemmas.{list_any_position, list_any_stored, position_before}
+use Rattle.vecmap_base.proofs.ItemsLemmas.{Additions.adds_apart, Changes.{matches_of_front, matches_of_parts, members_popped}, Filtered.any_filtered, Members.{members_of_first, members_removed}}
+use Rattle.vecmap_base.proofs.TakenLemmas.{TakesAt, TakesFirst, first_by_shift, first_by_swap, last_read, last_taken, len_of_first, len_popped, one_less, taken_by_shift, taken_by_swap}
+use Rattle.vecmap_set.specs.Removals.{FindsItem, KeepsFrontItems, RemovesItemAt, RemovesItemBy, RemovesLastItem, RetainsItems, SplitsItems, Takes}
+use Rattle.vecmap_set.specs.{Indices.MovesItemIndex, Tests.AgreesOnEquals}
+use Rattle.vecmap_set.proofs.IndexLemmas.{at_swap_removed, index_moved, indices_of_front, present_in_front}
 use Rattle.vecmap_set.proofs.QueryLemmas.{stored_matches}
 
 module _ {T : Type 0} where
@@ -25,6 +25,13 @@ module _ {T : Type 0} where
     indices = indices_of_front s r n e;
   }
 
+  pub retains_items : {F : Type 0} (R : F → T → Bool → T → F → Type 0) → ((f : F) (x : T) (b : Bool) (y : T) (g : F) → R f x b y g → y ≡ x) → (f : F) (s r : List T) → ((g : F) × Kept R f s r g) → RetainsItems R f s r
+  retains_items R same f s r calls = record {
+    calls = calls;
+    matches = λ query kept told. any_filtered R same query kept f calls.0 s r told calls.1;
+    len = length_kept R f calls.0 s r calls.1;
+  }
+
 module _ {T : Type 0} (eq : T → T → Bool) (o : IsEquivalence eq) where
   module _ (test : T → Bool) (respects : IsKeyTest eq test) (s r : List T) (d : IsDistinct eq s) where
     distinct_first : TakesFirst s r test → IsDistinct eq r
@@ -37,51 +44,39 @@ module _ {T : Type 0} (eq : T → T → Bool) (o : IsEquivalence eq) where
         let equal : eq x t.1 ≡ test t.1 = ap (λ q. q t.1) (sym (compares_with eq o test respects x passes)) in
         list_any-IsPermutation f s (t.1 ∷ r) t.2.1 ∙ (λ k. (sym (list_any_position test s ∙ ap is_some t.3) k && same x t.1 (equal ∙ t.4) k) || list_any f r)
 
-    pub removes_item_by : r ≡ without_first test s → RemovesItemBy eq test s r
-    removes_item_by e =
-        let first = first_by_shift s r test e in
+    removes_by : (without : (T → Bool) → List T → List T) → r ≡ without test s → TakesFirst s r test → RemovesItemBy eq without test s r
+    removes_by without e first =
         record { elements = e; distinct = distinct_first first; updates = members_of_first eq o test respects s r first d; any = any_first first; len = len_of_first s r test first }
 
-    pub swap_removes_item_by : r ≡ swap_without_first test s → SwapRemovesItemBy eq test s r
-    swap_removes_item_by e =
-        let first = first_by_swap s r test e in
-        record { elements = e; distinct = distinct_first first; updates = members_of_first eq o test respects s r first d; any = any_first first; len = len_of_first s r test first }
+    pub removes_item_by : r ≡ without_first test s → RemovesItemBy eq without_first test s r
+    removes_item_by e = removes_by without_first e (first_by_shift s r test e)
+
+    pub swap_removes_item_by : r ≡ swap_without_first test s → RemovesItemBy eq swap_without_first test s r
+    swap_removes_item_by e = removes_by swap_without_first e (first_by_swap s r test e)
 
   module _ (s r : List T) (d : IsDistinct eq s) where
     takes : (x : T) → IsPermutation s (x ∷ r) → Takes x s r
     takes x moved f = list_any-IsPermutation f s (x ∷ r) moved
 
-    distinct_taken : (x : T) → IsPermutation s (x ∷ r) → IsDistinct eq r
-    distinct_taken x moved = IsDistinct-tail eq x r (distinct_rearranged eq o s (x ∷ r) moved d)
+    removes_at : (without : List T → ℕ → List T) (i : ℕ) (x : T) → r ≡ without s i → TakesAt s r i x → RemovesItemAt eq without i s x r
+    removes_at without i x e at = record {
+      element = at.0;
+      elements = e;
+      distinct = IsDistinct-tail eq x r (distinct_rearranged eq o s (x ∷ r) at.1 d);
+      updates = members_removed eq o s r i x at d;
+      any = takes x at.1;
+      len = one_less s r x at.1;
+      indices = λ test j h l. position_before test s r i j at.2 l h;
+    }
 
-    pub removes_item_at : (i : ℕ) (x : T) → r ≡ remove s i → slice_get s i ≡ Some x → RemovesItemAt eq i s x r
-    removes_item_at i x e read =
-        let at = taken_by_shift s r i x e read in
-        let moved = at.1 in
-        record {
-          element = read;
-          elements = e;
-          distinct = distinct_taken x moved;
-          updates = members_removed eq o s r i x at d;
-          any = takes x moved;
-          len = one_less s r x moved;
-          indices = indices_of_removed s r i e;
-          shifts = items_shift s r i e;
-        }
+    pub removes_item_at : (i : ℕ) (x : T) → r ≡ remove s i → slice_get s i ≡ Some x → RemovesItemAt eq remove i s x r
+    removes_item_at i x e read = removes_at remove i x e (taken_by_shift s r i x e read)
 
-    pub swap_removes_item_at : (i : ℕ) (x : T) → r ≡ swap_without s i → slice_get s i ≡ Some x → SwapRemovesItemAt eq i s x r
-    swap_removes_item_at i x e read =
-        let at = taken_by_swap s r i x e read in
-        let moved = at.1 in
-        record {
-          element = read;
-          elements = e;
-          distinct = distinct_taken x moved;
-          updates = members_removed eq o s r i x at d;
-          any = takes x moved;
-          len = one_less s r x moved;
-          moves = λ last. index_moved eq o s r (length s - 1) i (at_swap_removed s r i x e read last) (distinct_taken x moved);
-        }
+    pub swap_removes_item_at : (i : ℕ) (x : T) → r ≡ swap_without s i → slice_get s i ≡ Some x → RemovesItemAt eq swap_without i s x r
+    swap_removes_item_at i x e read = removes_at swap_without i x e (taken_by_swap s r i x e read)
+
+    pub last_item_moves : (i : ℕ) (x : T) → RemovesItemAt eq swap_without i s x r → i < length s - 1 → MovesItemIndex eq (length s - 1) i s r
+    last_item_moves i x removal last = index_moved eq o s r (length s - 1) i (at_swap_removed s r i x removal.elements removal.element last) removal.distinct
 
     pub removes_last_item : (last : Option T) → r ≡ take (length s - 1) s → s ≡ r ++ option_to_list last → RemovesLastItem eq s last r
     removes_last_item last front parts = record {
@@ -96,3 +91,15 @@ module _ {T : Type 0} (eq : T → T → Bool) (o : IsEquivalence eq) where
         by_element : (last : Option T) → s ≡ r ++ option_to_list last → IfSome last (λ x. Takes x s r)
         by_element None f = tt
         by_element (Some x) f = takes x (last_taken s r x f)
+
+    pub splits_items : (n : ℕ) (rest : List T) → n ≤ length s → r ≡ take n s → rest ≡ drop n s → SplitsItems eq n s r rest
+    splits_items n rest within front part =
+        let whole : r ++ rest ≡ s = (λ i. front i ++ part i) ∙ take-append-drop n s in
+        record {
+          front = keeps_front_items n s r front;
+          part = part;
+          part_distinct = subst (IsDistinct eq) (sym part) (distinct_drop eq n s d);
+          part_matches = λ test. matches_of_parts test n s r rest front part;
+          len = (ap length front ∙ length-take-le n s within, sym (length-append r rest) ∙ ap length whole);
+          joined = adds_apart eq o r rest (subst (IsDistinct eq) (sym whole) d) ∙ whole;
+        }

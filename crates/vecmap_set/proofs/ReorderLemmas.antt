@@ -7,6 +7,7 @@ use Rattle.vecmap_base.proofs.EqualityLemmas.Sets.{same_items}
 use Rattle.vecmap_base.proofs.MoveLemmas.{at_reversed, moved_item, moved_other, swapped_item, swapped_item_back, swapped_other}
 use Rattle.vecmap_set.specs.Reorders.{MovesItem, ReversesItems, SwapsItems}
 use Rattle.vecmap_set.proofs.IndexLemmas.{index_moved}
+pub use Rattle.vecmap_base.proofs.DistinctLemmas.Order.{distinct_rearranged, distinct_reverse, distinct_swap}
 
 pub items_reordered : {T : Type 0} (s r : List T) → IsPermutation s r → IsReorderedItems s r
 items_reordered s r p = grind (arith, list_any-IsPermutation, length_permutation, same_items)

@@ -1,10 +1,11 @@
 -- What calls leave in a set is distinct. Of clones the idea is: each is equal to its original, and the originals are
 -- distinct.
-use Rattle.std.proofs.Common.{arith, ◌≡◌, ℕ, Bool, Contains, IsTrue, List, [], ◌∷◌, ◌++◌, drop, length, reverse, take, true}
-use Rattle.std.specs.{Cmp.IsEquivalence, List.IsDistinct, Set.is_member}
+use Rattle.std.proofs.Common.{arith, ◌≡◌, ◌⊎◌, ℕ, Bool, Contains, IsTrue, List, [], ◌∷◌, ◌++◌, drop, false, inl, inr, length, refl, reverse, subst, sym, take, true}
+use Rattle.std.specs.{Cmp.IsEquivalence, List.{IsDistinct, list_any}, Map.IsKeyTest, Set.is_member}
 use Rattle.std.proofs.lemmas.List.Elements.{Contains-append_left, Contains-append_right, Contains-push}
-use Rattle.std.proofs.lemmas.{List.Sorted.IsPermutation-reverse, Map.Keys.IsDistinct-push}
-use Rattle.vecmap_base.specs.{Clones.AreClones, Equality.is_within}
+use Rattle.std.proofs.lemmas.{Bool.cases_Bool, List.Sorted.IsPermutation-reverse, Map.Keys.IsDistinct-push}
+use Rattle.vecmap_base.specs.{Clones.AreClones, Equality.is_within, Items.both}
+use Rattle.vecmap_base.proofs.{EqualityLemmas.Relations.apart_if_none_shared, PairsLemmas.Lookups.compares_with}
 use Rattle.vecmap_base.proofs.EqualityLemmas.Sets.{set_equal_by_half, set_lengths_differ, within_back, within_from_test}
 use Rattle.vecmap_base.proofs.DistinctLemmas.{Absent.distinct_none, Additions.distinct_adds, Clones.distinct_clones, Order.distinct_tail, Removals.distinct_drop, Removals.distinct_front, Removals.distinct_take}
 
@@ -34,6 +35,38 @@ module _ {T : Type 0} (eq : T → T → Bool) (o : IsEquivalence eq) where
   -- Of two distinct lists of one length, one within the other, both have the same elements.
   pub members_of_equal : (a b : List T) → IsDistinct eq a → length a ≡ length b → is_within eq a b ≡ true → (q : T) → is_member eq a q ≡ is_member eq b q
   members_of_equal a b d n e q = grind (arith, within_from_test, within_back)
+
+  -- A query matches an element of a list, or none.
+  match_or_none : (test : T → Bool) (l : List T) → ((x : T) × (test x ≡ true)) ⊎ (list_any test l ≡ false)
+  match_or_none test [] = grind (arith, cases_Bool)
+  match_or_none test (x ∷ xs) = grind (arith, cases_Bool, (match_or_none test xs))
+
+  -- What is said of elements is said of queries: a query that matches something matches the equals of one element.
+  pub by_queries : (R : Bool → Bool → Bool → Type 0) → R false false false → (a b c : List T) → ((q : T) → R (is_member eq a q) (is_member eq b q) (is_member eq c q)) → (test : T → Bool) → IsKeyTest eq test → R (list_any test a) (list_any test b) (list_any test c)
+  by_queries R nothing a b c members test respects =
+      let by : (found : (x : T) × (test x ≡ true)) → R (list_any test a) (list_any test b) (list_any test c) = λ found.
+      subst (λ f. R (list_any f a) (list_any f b) (list_any f c)) (sym (compares_with eq o test respects found.0 found.1)) (members found.0) in
+      elim (match_or_none test a) [
+        | inl found ↦ by found
+        | inr first ↦
+            elim (match_or_none test b) [
+              | inl found ↦ by found
+              | inr second ↦
+                  elim (match_or_none test c) [
+                    | inl found ↦ by found
+                    | inr third ↦ rw (first, second, third) nothing
+                  ]
+            ]
+      ]
+
+  pub queries_of_equal : (a b : List T) → IsDistinct eq a → length a ≡ length b → is_within eq a b ≡ true → (test : T → Bool) → IsKeyTest eq test → list_any test a ≡ list_any test b
+  queries_of_equal a b d n e = by_queries (λ x y z. x ≡ y) refl a b a (members_of_equal a b d n e)
+
+  pub queries_within : (a b : List T) → is_within eq a b ≡ true → (test : T → Bool) → IsKeyTest eq test → list_any test a ≡ true → list_any test b ≡ true
+  queries_within a b e = by_queries (λ x y z. x ≡ true → y ≡ true) (λ h. h) a b a (within_from_test eq o a b e)
+
+  pub queries_apart : (a b : List T) → both eq a b ≡ [] → (test : T → Bool) → IsKeyTest eq test → list_any test a ≡ true → list_any test b ≡ false
+  queries_apart a b e = by_queries (λ x y z. x ≡ true → y ≡ false) (λ h. refl) a b a (apart_if_none_shared eq o a b e)
 
 -- The lemmas for the goals of calls that change a set.
 pub ruleset distinct_changes = (distinct_adds, distinct_drop, distinct_first, distinct_none, IsDistinct-push, distinct_take, distinct_reversed)

@@ -1,8 +1,15 @@
--- At which indices a set has its elements after a change. `eq` is the `==` of the elements.
-use Rattle.std.specs.{Prelude.{◌≡◌, ◌+◌, ◌<◌, ◌≤◌, ℕ, Bool, List, Some, position, slice_get}, Map.IsKeyTest}
+-- At which indices a set has its elements, also after a change. `eq` is the `==` of the elements.
+use Rattle.std.specs.{Prelude.{◌≡◌, ◌+◌, ◌<◌, ◌≤◌, ℕ, Bool, IsTrue, List, Some, length, position, slice_get}, Map.IsKeyTest}
 use Rattle.vecmap_base.specs.Items.{item_index}
 
 module _ {T : Type 0} where
+  -- Example: the query 2, in `[1, 2]`, at the index 1.
+  -- The first match of a query in the list `s` is at the index `i`.
+  pub record FindsAt (test : T → Bool) (s : List T) (i : ℕ) : Type 0 where
+    pub index : position test s ≡ Some i
+    pub within : i < length s
+    pub at : (x : T) × (slice_get s i ≡ Some x) × IsTrue (test x)
+
   -- Example: from `[1, 2]` to `[1, 2, 3]`.
   -- The first match of each query in the list `s` has the same index in `r`.
   abbrev pub KeepsMatchIndices : List T → List T → Type 0

@@ -30,3 +30,12 @@ module _ {T : Type 0} (eq : T → T → Bool) where
     pub appended : stored_item eq s x ≡ None → r ≡ s ++ x ∷ []
     pub len : length r ≡ length s + (if is_some (stored_item eq s x) then 0 else 1)
     pub indices : KeepsItemIndices eq s r
+
+  -- Example: from `[1]` to `[1, 2]` for the query 2.
+  -- The list `r` is the list `s` if an element passes the test, or else `s` with such an element appended.
+  pub record AddsItemBy (test : T → Bool) (s r : List T) : Type 0 where
+    pub elements : (x : T) × IsTrue (test x) × (r ≡ (if list_any test s then s else s ++ x ∷ []))
+    -- What queries find, how many elements there are, and where the old ones are.
+    pub updates : UpdatesMember eq test s r true
+    pub len : length r ≡ length s + (if not (list_any test s) then 1 else 0)
+    pub indices : KeepsMatchIndices s r

@@ -17,26 +17,6 @@ pub record Parts (A B : Type 0) : Type 0 where
   pub second : B
 
 module _ {T : Type 0} where
-  -- Example: `shorter [a] [b, c] ≡ [a]`; `shorter [a] [b] ≡ [a]`.
-  -- The shorter of two lists, or the first if neither is shorter.
-  abbrev pub shorter : List T → List T → List T
-  shorter a b = if nat_lt (length b) (length a) then b else a
-
-  -- Example: `not_shorter [a] [b, c] ≡ [b, c]`.
-  -- The one that is not `shorter`.
-  abbrev pub not_shorter : List T → List T → List T
-  not_shorter a b = if nat_lt (length b) (length a) then a else b
-
-  -- Example: `longer [a] [b, c] ≡ [b, c]`; `longer [a] [b] ≡ [a]`.
-  -- The longer of two lists, or the first if neither is longer.
-  abbrev pub longer : List T → List T → List T
-  longer a b = if nat_lt (length a) (length b) then b else a
-
-  -- Example: `not_longer [a] [b, c] ≡ [a]`.
-  -- The one that is not `longer`.
-  abbrev pub not_longer : List T → List T → List T
-  not_longer a b = if nat_lt (length a) (length b) then a else b
-
   -- The elements of a, each to be looked up in b.
   abbrev pub filtered_of : List T → List T → Filtered T
   filtered_of a b = record { ahead = a; other = b }
@@ -45,15 +25,15 @@ module _ {T : Type 0} where
   abbrev pub union_parts : List T → List T → Parts (List T) (Filtered T)
   union_parts a b = record { first = a; second = filtered_of b a }
 
-  -- Example: `filtered_of_shorter [a, b, c] [c, d] ≡ filtered_of [c, d] [a, b, c]`.
-  -- The elements of the shorter list, each to be looked up in the other.
+  -- Example: `filtered_of_shorter [a, b] [c] ≡ filtered_of [c] [a, b]`; `filtered_of_shorter [a] [c] ≡ filtered_of [a] [c]`.
+  -- The elements of the shorter list, or of the first if neither is shorter, each to be looked up in the other.
   abbrev pub filtered_of_shorter : List T → List T → Filtered T
-  filtered_of_shorter a b = filtered_of (shorter a b) (not_shorter a b)
+  filtered_of_shorter a b = if nat_lt (length b) (length a) then filtered_of b a else filtered_of a b
 
-  -- Example: `longer_first [a] [b, c] ≡ union_parts [b, c] [a]`.
-  -- All of the longer list, and then the elements of the other, each to be looked up in the longer.
+  -- Example: `longer_first [a] [b, c] ≡ union_parts [b, c] [a]`; `longer_first [a] [b] ≡ union_parts [a] [b]`.
+  -- All of the longer list, or of the first if neither is longer, and then the elements of the other, each to be looked up there.
   abbrev pub longer_first : List T → List T → Parts (List T) (Filtered T)
-  longer_first a b = union_parts (longer a b) (not_longer a b)
+  longer_first a b = if nat_lt (length a) (length b) then union_parts b a else union_parts a b
 
   -- The elements of a, each to be looked up in b, and then the elements of b, each to be looked up in a.
   abbrev pub symmetric_parts : List T → List T → Parts (Filtered T) (Filtered T)

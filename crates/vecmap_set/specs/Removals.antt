@@ -1,9 +1,9 @@
--- What the removal of one element leaves of a set, one record for each kind of removal. `eq` is the `==` of the elements,
+-- What removals of elements leave of a set, one record for each kind of removal. `eq` is the `==` of the elements,
 -- and a test is what a query does with an element.
-use Rattle.std.specs.Prelude.{◌≡◌, ◌&&◌, ◌+◌, ◌-◌, ◌<◌, ◌||◌, ℕ, Bool, IfSome, IsTrue, List, Option, Some, false, if◌then◌else◌, is_some, length, min, nat_lt, position, remove, slice_get, take, true, unwrap_or}
+use Rattle.std.specs.Prelude.{◌≡◌, ◌&&◌, ◌+◌, ◌-◌, ◌<◌, ◌≤◌, ◌||◌, ℕ, Bool, IfSome, IsTrue, List, Option, Some, drop, false, if◌then◌else◌, is_some, length, min, nat_lt, position, slice_get, take, true, unwrap_or}
 use Rattle.std.specs.List.{IsDistinct, list_any}
-use Rattle.vecmap_base.specs.{Items.{stored_first, swap_without, swap_without_first, without_first}, Lookups.UpdatesMember}
-use Rattle.vecmap_set.specs.{Indices.{KeepsMatchIndicesBelow, MovesItemIndex, ShiftsItems}, Tests.AgreesOnEquals}
+use Rattle.vecmap_base.specs.{Items.{adds, stored_first}, Kept.{Kept, ReturnsAt}, Lookups.UpdatesMember}
+use Rattle.vecmap_set.specs.{Indices.KeepsMatchIndicesBelow, Tests.AgreesOnEquals}
 
 module _ {T : Type 0} where
   -- Example: 2 of `[1, 2]` for the query 2.
@@ -28,11 +28,19 @@ module _ {T : Type 0} where
     pub len : length r ≡ min n (length s)
     pub indices : KeepsMatchIndicesBelow n s r
 
+  -- Example: of a closure that keeps what is below 3: from `[1, 2, 3]` to `[1, 2]`.
+  -- The list `r` has the elements of the list `s` for which the closure returns `true`, called in order from the state `f` on.
+  pub record RetainsItems {F : Type 0} (R : F → T → Bool → T → F → Type 0) (f : F) (s r : List T) : Type 0 where
+    pub calls : (g : F) × Kept R f s r g
+    -- What queries find whose matches the closure keeps or not, and how many elements there are.
+    pub matches : (query : T → Bool) (kept : Bool) → ReturnsAt R f query kept → list_any query r ≡ (list_any query s && kept)
+    pub len : length r ≤ length s
+
 module _ {T : Type 0} (eq : T → T → Bool) where
-  -- Example: from `[1, 2, 3]` to `[2, 3]` for the query 1.
-  -- The list `r` is the list `s` without the element that passes the test; the elements after it move by one index.
-  pub record RemovesItemBy (test : T → Bool) (s r : List T) : Type 0 where
-    pub elements : r ≡ without_first test s
+  -- Example: from `[1, 2, 3]` to `[2, 3]` for the query 1 and `without_first`.
+  -- The list `r` is the list `s` without the element that passes the test, and with the others as `without` says.
+  pub record RemovesItemBy (without : (T → Bool) → List T → List T) (test : T → Bool) (s r : List T) : Type 0 where
+    pub elements : r ≡ without test s
     pub distinct : IsDistinct eq r
     -- What queries find: nothing for the element, and for each other what they found.
     pub updates : UpdatesMember eq test s r false
@@ -40,43 +48,17 @@ module _ {T : Type 0} (eq : T → T → Bool) where
     pub any : (f : T → Bool) → AgreesOnEquals eq f → (x : T) → IsTrue (test x) → list_any f s ≡ ((list_any test s && f x) || list_any f r)
     pub len : length r + (if list_any test s then 1 else 0) ≡ length s
 
-  -- Example: from `[1, 2, 3]` to `[3, 2]` for the query 1.
-  -- The list `r` is the list `s` without the element that passes the test; the last element moves to its index.
-  pub record SwapRemovesItemBy (test : T → Bool) (s r : List T) : Type 0 where
-    pub elements : r ≡ swap_without_first test s
-    pub distinct : IsDistinct eq r
-    -- What queries find: nothing for the element, and for each other what they found.
-    pub updates : UpdatesMember eq test s r false
-    -- For which tests an element passes, if they do not tell equal elements apart.
-    pub any : (f : T → Bool) → AgreesOnEquals eq f → (x : T) → IsTrue (test x) → list_any f s ≡ ((list_any test s && f x) || list_any f r)
-    pub len : length r + (if list_any test s then 1 else 0) ≡ length s
-
-  -- Example: from `[1, 2, 3]` to `[2, 3]` for the index 0 and the element 1.
-  -- The list `r` is the list `s` without its element `x` at the index `i`; the elements after it move by one index.
-  pub record RemovesItemAt (i : ℕ) (s : List T) (x : T) (r : List T) : Type 0 where
+  -- Example: from `[1, 2, 3]` to `[2, 3]` for the index 0, the element 1 and `remove`.
+  -- The list `r` is the list `s` without its element `x` at the index `i`, and with the others as `without` says.
+  pub record RemovesItemAt (without : List T → ℕ → List T) (i : ℕ) (s : List T) (x : T) (r : List T) : Type 0 where
     pub element : slice_get s i ≡ Some x
-    pub elements : r ≡ remove s i
+    pub elements : r ≡ without s i
     pub distinct : IsDistinct eq r
-    -- What queries and tests find.
+    -- What queries and tests find, how many elements there are, and where those before the index are.
     pub updates : UpdatesMember eq (eq x) s r false
     pub any : Takes x s r
     pub len : length r + 1 ≡ length s
-    -- At which indices the other elements are.
     pub indices : KeepsMatchIndicesBelow i s r
-    pub shifts : ShiftsItems i s r
-
-  -- Example: from `[1, 2, 3]` to `[3, 2]` for the index 0 and the element 1.
-  -- The list `r` is the list `s` without its element `x` at the index `i`; the last element moves to that index.
-  pub record SwapRemovesItemAt (i : ℕ) (s : List T) (x : T) (r : List T) : Type 0 where
-    pub element : slice_get s i ≡ Some x
-    pub elements : r ≡ swap_without s i
-    pub distinct : IsDistinct eq r
-    -- What queries and tests find.
-    pub updates : UpdatesMember eq (eq x) s r false
-    pub any : Takes x s r
-    pub len : length r + 1 ≡ length s
-    -- At which index the last element is.
-    pub moves : i < length s - 1 → MovesItemIndex eq (length s - 1) i s r
 
   -- Example: from `[1, 2]` to `[1]`, with `Some 2`.
   -- The list `r` is the list `s` without its last element, which is returned, if there is one.
@@ -88,3 +70,14 @@ module _ {T : Type 0} (eq : T → T → Bool) where
     pub updates : IfSome last (λ x. UpdatesMember eq (eq x) s r false)
     pub any : IfSome last (λ x. Takes x s r)
     pub len : length r + (if is_some last then 1 else 0) ≡ length s
+
+  -- Example: of `[1, 2, 3]` at the index 2: `[1, 2]` and `[3]`.
+  -- The list `r` has the first `n` elements of the list `s`, and the list `rest` the others.
+  pub record SplitsItems (n : ℕ) (s r rest : List T) : Type 0 where
+    pub front : KeepsFrontItems n s r
+    pub part : rest ≡ drop n s
+    pub part_distinct : IsDistinct eq rest
+    -- What queries find, how many elements there are, and that additions of the part undo the split.
+    pub part_matches : (test : T → Bool) → list_any test s ≡ (list_any test r || list_any test rest)
+    pub len : (length r ≡ n) × (length r + length rest ≡ length s)
+    pub joined : adds eq r rest ≡ s

@@ -1,7 +1,9 @@
--- What the calls that add many elements at once leave.
-use Rattle.std.specs.{Prelude.{◌≡◌, ◌≤◌, Bool, List, OnErr, Option, Result, map}, Iterator.Count, List.IsDistinct}
-use Rattle.vecmap_base.specs.{Bulk.{HasRoomForAll, StopsAt}, Items.adds}
-use Rattle.vecmap_set.specs.Contents.{Contents, HasRoom, Refuses}
+-- What the calls that add or copy many elements at once leave. `eq` is the `==` of the elements. In the examples, `1x` and
+-- `1y` are elements that `eq` calls equal, and are not the same.
+use Rattle.std.specs.Prelude.{◌≡◌, ◌+◌, ◌++◌, ◌≤◌, ◌||◌, Bool, Contains, IsTrue, List, OnErr, Option, Result, [], length, map}
+use Rattle.std.specs.{Iterator.Count, List.IsDistinct, Set.is_member}
+use Rattle.vecmap_base.specs.{Bulk.{HasRoomForAll, StopsAt}, Clones.AreClones, Equality.has_same_items, Items.{adds, both}}
+use Rattle.vecmap_set.specs.{Contents.{Contents, HasRoom, Refuses}, Indices.KeepsMatchIndices}
 
 module _ {T U S A E : Type 0} (becomes : U → S → Type 0) (steps : S → Option A → S → Type 0) (left : S → Count) where
   -- Example: of `2` on a full `[1]`, if allocation fails: the same set.
@@ -12,6 +14,42 @@ module _ {T U S A E : Type 0} (becomes : U → S → Type 0) (steps : S → Opti
     pub err : OnErr result (StopsAt becomes steps iter (refuses old new))
 
 module _ {T : Type 0} (eq : T → T → Bool) where
+  -- Example: from `[1x]` to `[1x, 2x]` for `[1y, 2x]`.
+  -- The list `r` is the list `s` after insertions of all of `xs`, in order: an equal element stays, and a new one is appended.
+  pub record AddsItems (s xs r : List T) : Type 0 where
+    pub elements : r ≡ adds eq s xs
+    -- Which elements are present, how many there are, and where the old ones are.
+    pub members : (q : T) → is_member eq r q ≡ (is_member eq s q || is_member eq xs q)
+    pub len : (length s ≤ length r) × (length r ≤ length s + length xs)
+    pub indices : KeepsMatchIndices s r
+    -- If no two elements are equal, all are appended.
+    pub as_given : IsDistinct eq (s ++ xs) → r ≡ s ++ xs
+
+  -- Example: from `[1]` to `[1, 2]` for `[1, 2]`.
+  -- The same, if the lists `s` and `xs` are the elements of two sets.
+  pub record JoinsItems (s xs r : List T) : Type 0 where
+    pub added : AddsItems s xs r
+    -- There are at least as many as in either set, and as many as in both together if these are disjoint.
+    pub enough : length xs ≤ length r
+    pub apart : both eq s xs ≡ [] → length r ≡ length s + length xs
+
+  -- Example: from `[1x, 1y]` to `[1x]`.
+  -- The list `r` is the empty list after insertions of clones of all of `xs`, in order.
+  pub record AddsClones (is_clone : T → T → Type 0) (xs r : List T) : Type 0 where
+    pub elements : (clones : List T) × AreClones is_clone xs clones × (r ≡ adds eq [] clones)
+    pub distinct : IsDistinct eq r
+    pub members : ((x y : T) → Contains xs x → is_clone x y → IsTrue (eq x y)) → (q : T) → is_member eq r q ≡ is_member eq xs q
+    pub len : length r ≤ length xs
+
+  -- Example: from `[1x, 2x]` to `[1y, 2x]`.
+  -- The list `r` has a clone of each element of `s`, in order, and a clone is equal to its original.
+  pub record CopiesItems (is_clone : T → T → Type 0) (s r : List T) : Type 0 where
+    pub elements : AreClones is_clone s r
+    pub distinct : IsDistinct eq r
+    pub members : (q : T) → is_member eq r q ≡ is_member eq s q
+    pub len : length r ≡ length s
+    pub equal : IsTrue (has_same_items eq r s)
+
   -- Example: `Adds nat_eq (set_of [1] 4) [2, 1, 3] (set_of [1, 2, 3] 4)`.
   -- Example: `¬ (Adds nat_eq (set_of [1] 4) [2] (set_of [1] 4))`.
   -- The new set has the elements of the old one, to which the items were added in order.

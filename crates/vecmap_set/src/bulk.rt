@@ -1,10 +1,9 @@
 //! Creation of a set from many elements, and addition of many elements.
-ghost use Rattle.std.specs.Prelude.{◌≡◌, ◌+◌, ◌<◌, ◌≤◌, ◌||◌, Contains, IfOk, IsOk, IsTrue, List, OnErr, OnOk, [], length, map};
+ghost use Rattle.std.specs.Prelude.{◌≡◌, ◌<◌, ◌≤◌, IfOk, IsOk, List, OnErr, OnOk, [], length, map};
 ghost use Rattle.std.specs.{Borrow.Bor, Iterator.{Drains, ExtendsWithItems, IsFiniteIterable}, List.IsDistinct, Map.Iter.deref};
-ghost use Rattle.std.specs.Set.{is_member};
-ghost use Rattle.vecmap_base.specs.{Bulk.{HasRoomForAll, YieldsAll}, Clones.AreClones, Items.adds};
+ghost use Rattle.vecmap_base.specs.{Bulk.{HasRoomForAll, YieldsAll}, Items.adds};
 ghost use Rattle.vecmap_set.specs.{Contents.{HasRoom, with_elements}, Indices.KeepsMatchIndices};
-ghost use Rattle.vecmap_set.specs.SetBulk.{Adds, AddsCopies, Extends, RefusesAfter, RefusesCopiesAfter};
+ghost use Rattle.vecmap_set.specs.SetBulk.{Adds, AddsClones, AddsCopies, AddsItems, Extends, JoinsItems, RefusesAfter, RefusesCopiesAfter};
 
 use crate::VecSet;
 use std::alloc::{AllocError, Global};
@@ -44,34 +43,21 @@ impl<T: Eq> VecSet<T> {
         ensures elements { IfOk result (λ set. (it : I.IntoIter) × (items : List T)
             × I.into_iter_gives iter it × Drains I.IntoIter.next_gives it items
             × (set.elements ≡ adds T.eq [] items)) }
+        ensures insertion { (items : List T)
+            → YieldsAll I.into_iter_gives I.IntoIter.next_gives iter items
+            → IfOk result (λ set. AddsItems T.eq [] items set.elements) }
         ensures distinct { IfOk result (λ set. IsDistinct T.eq set.elements) }
-
-        // What follows for lookups, lengths and indices.
-        ensures members { (items : List T)
-            → YieldsAll I.into_iter_gives I.IntoIter.next_gives iter items
-            → IfOk result (λ set. (q : T) → is_member T.eq set.elements q
-            ≡ is_member T.eq items q) }
-        ensures len { (items : List T)
-            → YieldsAll I.into_iter_gives I.IntoIter.next_gives iter items
-            → IfOk result (λ set. length set.elements ≤ length items) }
     {
         let mut set = VecSet::new(alloc);
         set.extend(iter)?;
         Ok(set)
     }
 
-    /// Creates a set and adds clones of the elements of a slice, in order.
-    ///
-    /// This is Rust's `From<&[T]>`. Among equal clones the first is kept. The call reserves no capacity in advance,
-    /// like [`VecSet::from_iter`].
+    /// Like [`VecSet::from_iter`], but adds clones of the elements of a slice. This is Rust's `From<&[T]>`.
     ///
     /// # Errors
     ///
     /// [`AllocError`] if an allocation fails, or if the clone of an element fails; no set is created.
-    ///
-    /// # Complexity
-    ///
-    /// One lookup for each element, so at most n(n-1)/2 comparisons for n elements.
     ///
     /// # Examples
     ///
@@ -82,15 +68,8 @@ impl<T: Eq> VecSet<T> {
     pub fn from_slice(alloc: Global, items: &[T]) -> Result<VecSet<T>, AllocError>
     where
         T: Clone,
-        ensures elements { IfOk result (λ set. (clones : List T)
-            × AreClones T.is_clone items.now clones × (set.elements ≡ adds T.eq [] clones)) }
-        ensures distinct { IfOk result (λ set. IsDistinct T.eq set.elements) }
-
-        // What follows for lookups, lengths and indices.
-        ensures members { ((x y : T) → Contains items.now x → T.is_clone x y → IsTrue (T.eq x y))
-            → IfOk result (λ set. (q : T) → is_member T.eq set.elements q
-            ≡ is_member T.eq items.now q) }
-        ensures len { IfOk result (λ set. length set.elements ≤ length items.now) }
+        ensures insertion { IfOk result (λ set. AddsClones T.eq T.is_clone items.now
+            set.elements) }
     {
         let mut set = VecSet::new(alloc);
         for item in items {
@@ -126,8 +105,8 @@ impl<T: Eq> VecSet<T> {
     pub fn append(&mut self, other: &mut VecSet<T>) -> Result<(), AllocError>
     where
         T: Drop,
-        ensures elements { OnOk result (self.new.elements
-            ≡ adds T.eq self.old.elements other.old.elements) }
+        ensures insertion { OnOk result (JoinsItems T.eq self.old.elements other.old.elements
+            self.new.elements) }
         ensures distinct { IsDistinct T.eq self.new.elements }
         ensures emptied { OnOk result (other.new ≡ with_elements other.old []) }
         ensures other_distinct { IsDistinct T.eq other.new.elements }
@@ -138,15 +117,6 @@ impl<T: Eq> VecSet<T> {
         ensures not_empty { OnErr result (0 < length other.old.elements) }
         ensures err { OnErr result (self.new ≡ self.old) }
         ensures other_err { OnErr result (other.new ≡ other.old) }
-
-        // What follows for lookups, lengths and indices.
-        ensures members { OnOk result ((q : T) → is_member T.eq self.new.elements q
-            ≡ (is_member T.eq self.old.elements q || is_member T.eq other.old.elements q)) }
-        ensures len { OnOk result ((length self.old.elements ≤ length self.new.elements)
-            × (length self.new.elements
-            ≤ length self.old.elements + length other.old.elements)) }
-        ensures enough { OnOk result (length other.old.elements ≤ length self.new.elements) }
-        ensures indices { OnOk result (KeepsMatchIndices self.old.elements self.new.elements) }
     {
         self.reserve(other.len())?;
         for item in other.items.drain(..) {
@@ -188,21 +158,14 @@ impl<T: Eq> VecSet<T> {
             iter }
         ensures ran { ExtendsWithItems I.into_iter_gives I.IntoIter.next_gives
             (Adds T.eq) iter self.old self.new result }
+        ensures insertion { (items : List T)
+            → YieldsAll I.into_iter_gives I.IntoIter.next_gives iter items
+            → OnOk result (AddsItems T.eq self.old.elements items self.new.elements) }
         ensures distinct { IsDistinct T.eq self.new.elements }
         ensures succeeds { HasRoomForAll I.into_iter_gives I.IntoIter.remaining iter
             (HasRoom self.old) → IsOk result }
         ensures extended { Extends I.into_iter_gives I.IntoIter.next_gives I.IntoIter.remaining
             (RefusesAfter T.eq) iter self.old result self.new }
-
-        // What follows for lookups, lengths and indices.
-        ensures members { (items : List T)
-            → YieldsAll I.into_iter_gives I.IntoIter.next_gives iter items
-            → OnOk result ((q : T) → is_member T.eq self.new.elements q
-            ≡ (is_member T.eq self.old.elements q || is_member T.eq items q)) }
-        ensures len { (items : List T)
-            → YieldsAll I.into_iter_gives I.IntoIter.next_gives iter items
-            → OnOk result ((length self.old.elements ≤ length self.new.elements)
-            × (length self.new.elements ≤ length self.old.elements + length items)) }
         ensures indices { OnOk result (KeepsMatchIndices self.old.elements self.new.elements) }
     {
         // A proof knows the invariant only once a field is used, and the loop needs it at its start.
@@ -216,15 +179,6 @@ impl<T: Eq> VecSet<T> {
     /// Like [`VecSet::extend`], but adds copies of the elements of an iterator of references.
     ///
     /// This is Rust's `Extend<&T>`.
-    ///
-    /// # Errors
-    ///
-    /// [`AllocError`] if an allocation fails. If the set cannot grow for an element, the copies of the elements before
-    /// it stay.
-    ///
-    /// # Preconditions
-    ///
-    /// The iterator ends.
     ///
     /// # Examples
     ///
@@ -243,18 +197,15 @@ impl<T: Eq> VecSet<T> {
             iter }
         ensures ran { ExtendsWithItems I.into_iter_gives I.IntoIter.next_gives
             (AddsCopies T.eq deref) iter self.old self.new result }
+        ensures insertion { (items : List T) → ((it : I.IntoIter) (yielded : List (Bor T))
+            → I.into_iter_gives iter it → Drains I.IntoIter.next_gives it yielded
+            → map deref yielded ≡ items)
+            → OnOk result (AddsItems T.eq self.old.elements items self.new.elements) }
         ensures distinct { IsDistinct T.eq self.new.elements }
         ensures succeeds { HasRoomForAll I.into_iter_gives I.IntoIter.remaining iter
             (HasRoom self.old) → IsOk result }
         ensures extended { Extends I.into_iter_gives I.IntoIter.next_gives I.IntoIter.remaining
             (RefusesCopiesAfter T.eq deref) iter self.old result self.new }
-
-        // What follows for lookups, lengths and indices.
-        ensures members { (items : List T) → ((it : I.IntoIter) (yielded : List (Bor T))
-            → I.into_iter_gives iter it → Drains I.IntoIter.next_gives it yielded
-            → map deref yielded ≡ items) → OnOk result ((q : T)
-            → is_member T.eq self.new.elements q
-            ≡ (is_member T.eq self.old.elements q || is_member T.eq items q)) }
         ensures indices { OnOk result (KeepsMatchIndices self.old.elements self.new.elements) }
     {
         // As in `extend`.

@@ -1,6 +1,7 @@
 //! Clones of a set, by a call and by the trait `Clone`, for generic code, derives and sets in maps.
-ghost use Rattle.std.specs.{Prelude.{◌≡◌, ◌↔◌, Contains, IfOk, IsTrue, length}, List.IsDistinct, Set.is_member};
-ghost use Rattle.vecmap_base.specs.{Clones.AreClones, Equality.has_same_items};
+ghost use Rattle.std.specs.{Prelude.{◌↔◌, Contains, IfOk, IsTrue}, List.IsDistinct};
+ghost use Rattle.vecmap_base.specs.Clones.{AreClones};
+ghost use Rattle.vecmap_set.specs.SetBulk.{CopiesItems};
 
 use crate::VecSet;
 use std::alloc::AllocError;
@@ -34,16 +35,8 @@ impl<T: Eq> VecSet<T> {
         T: Clone,
         requires clones_equal { (x y : T) → Contains self.now.elements x → T.is_clone x y
             → IsTrue (T.eq x y) }
-        ensures elements { IfOk result
-            (λ set. AreClones T.is_clone self.now.elements set.elements) }
-        ensures distinct { IfOk result (λ set. IsDistinct T.eq set.elements) }
-
-        // What follows for lookups, lengths and indices.
-        ensures members { IfOk result (λ set. (q : T) → is_member T.eq set.elements q
-            ≡ is_member T.eq self.now.elements q) }
-        ensures len { IfOk result (λ set. length set.elements ≡ length self.now.elements) }
-        ensures equal { IfOk result (λ set. IsTrue (has_same_items T.eq set.elements
-            self.now.elements)) }
+        ensures copy { IfOk result (λ set. CopiesItems T.eq T.is_clone self.now.elements
+            set.elements) }
     {
         Ok(VecSet {
             items: self.items.clone()?,

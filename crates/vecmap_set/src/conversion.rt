@@ -1,6 +1,7 @@
 //! Conversions of a vector into a set, which keep the vector, and of an array; clones of the elements in a new vector.
-ghost use Rattle.std.specs.{Prelude.{◌≡◌, ◌≤◌, IfOk, [], length, vec_capacity}, List.IsDistinct, Set.is_member};
-ghost use Rattle.vecmap_base.specs.{Clones.AreClones, Items.adds, Comparisons.comparisons};
+ghost use Rattle.std.specs.{Prelude.{◌≡◌, ◌≤◌, IfOk, [], vec_capacity}, List.IsDistinct};
+ghost use Rattle.vecmap_base.specs.{Clones.AreClones, Comparisons.comparisons};
+ghost use Rattle.vecmap_set.specs.SetBulk.{AddsItems};
 
 use crate::VecSet;
 use std::alloc::{AllocError, Global};
@@ -21,11 +22,8 @@ use vecmap_base::{Steps, dedup_keep_first};
 /// set.as_slice() // [2, 1]
 /// ```
 impl<T: Eq + Drop> From<Vec<T>> for VecSet<T> {
-    ghost from_gives = { λ items set. (set.elements ≡ adds T.eq [] items.items)
-        × IsDistinct T.eq set.elements × (set.capacity ≡ vec_capacity items)
-        × ((q : T) → is_member T.eq set.elements q ≡ is_member T.eq items.items q)
-        × (length set.elements ≤ length items.items)
-        × (IsDistinct T.eq items.items → set.elements ≡ items.items) };
+    ghost from_gives = { λ items set. AddsItems T.eq [] items.items set.elements
+        × IsDistinct T.eq set.elements × (set.capacity ≡ vec_capacity items) };
 
     fn from(items: Vec<T>) -> VecSet<T> {
         let (set, _count) = VecSet::from_vec_counted(items);
@@ -53,16 +51,10 @@ impl<T: Eq> VecSet<T> {
     pub fn from_vec_counted(mut items: Vec<T>) -> (VecSet<T>, u128)
     where
         T: Drop,
-        ensures elements { result.0.elements ≡ adds T.eq [] items.items }
+        ensures insertion { AddsItems T.eq [] items.items result.0.elements }
         ensures distinct { IsDistinct T.eq result.0.elements }
         ensures capacity { result.0.capacity ≡ vec_capacity items }
         ensures counted { result.1 ≡ comparisons T.eq items.items }
-
-        // What follows for lookups, lengths and indices.
-        ensures members { (q : T) → is_member T.eq result.0.elements q
-            ≡ is_member T.eq items.items q }
-        ensures len { length result.0.elements ≤ length items.items }
-        ensures as_given { IsDistinct T.eq items.items → result.0.elements ≡ items.items }
     {
         let mut steps = Steps::new();
         dedup_keep_first(&mut items, &mut steps);
@@ -90,14 +82,9 @@ impl<T: Eq> VecSet<T> {
     pub fn from_array<const N: usize>(alloc: Global, items: [T; N]) -> Result<VecSet<T>, AllocError>
     where
         T: Drop,
-        ensures elements { IfOk result (λ set. set.elements ≡ adds T.eq [] items) }
+        ensures insertion { IfOk result (λ set. AddsItems T.eq [] items set.elements) }
         ensures distinct { IfOk result (λ set. IsDistinct T.eq set.elements) }
         ensures at_least { IfOk result (λ set. N ≤ set.capacity) }
-
-        // What follows for lookups, lengths and indices.
-        ensures members { IfOk result (λ set. (q : T) → is_member T.eq set.elements q
-            ≡ is_member T.eq items q) }
-        ensures len { IfOk result (λ set. length set.elements ≤ N) }
     {
         Ok(VecSet::from(Vec::from_array(alloc, items)?))
     }

@@ -66,9 +66,8 @@ impl<T: Eq> VecSet<T> {
 
 /// An iterator over the elements of a range of a set, which it removes. [`VecSet::drain`] creates it.
 ///
-/// When it is dropped, at any point, it leaves the set without the whole range. The elements that were not yielded are
-/// dropped, and the other elements of the set keep their order. After the last element, each call of `next` returns
-/// `None`. The elements of the set are distinct at any moment, so even a drain that is forgotten leaves a set.
+/// When it is dropped, the elements that were not yielded are dropped, too. After the last element, each call of `next`
+/// returns `None`. The elements of the set are distinct at any moment, so even a drain that is forgotten leaves a set.
 ///
 /// # Complexity
 ///
@@ -98,16 +97,11 @@ pub struct Drain<'a, T: Eq> {
 impl<'a, T: Eq + Drop> Drain<'a, T> {
     /// Creates the drain of the elements from the index `start` up to, but not including, `end`.
     ///
-    /// This is [`VecSet::drain`] for callers that have two indices and no range.
+    /// This is like [`VecSet::drain`], for callers that have two indices and no range.
     ///
     /// # Preconditions
     ///
     /// `start` is at most `end`, and `end` is at most the number of elements.
-    ///
-    /// # Complexity
-    ///
-    /// A number of moves that is linear in the number of elements from `start` on. No moves if `end` is the number of
-    /// elements.
     ///
     /// # Examples
     ///
@@ -124,8 +118,6 @@ impl<'a, T: Eq + Drop> Drain<'a, T> {
         ensures fits { length (drain_rest result) < 2 ^ 64 }
         ensures runs { YieldsInOrder (DrainNext {T = T}) drain_rest }
         ensures runs_back { YieldsInReverse (DrainNextBack {T = T}) drain_rest }
-
-        // Once the drain is dropped, after any number of calls, the set has the other elements and its old capacity.
         ensures kept { drain_kept result ≡ remove_range set.old.elements start end }
         ensures capacity { drain_capacity result ≡ set.old.capacity }
         ensures same_set { drain_lender result ≡ set.entry.ghost_name }

@@ -1,5 +1,5 @@
 //! Equality of sets, disjoint sets, subsets and supersets.
-ghost use Rattle.std.specs.{Prelude.{◌≡◌, ◌↔◌, ◌≤◌, IsTrue, [], false, length}, Set.is_member};
+ghost use Rattle.std.specs.{List.list_any, Map.IsKeyTest, Prelude.{◌≡◌, ◌↔◌, ◌≤◌, Bool, IsTrue, [], false, length}, Set.is_member};
 ghost use Rattle.vecmap_base.specs.{Equality.{has_same_items, is_within}, Items.both};
 
 use crate::VecSet;
@@ -19,11 +19,13 @@ impl<T: Eq> VecSet<T> {
     /// let set = vecset!(alloc; 1, 2);
     /// set.is_disjoint(&vecset!(alloc; 3, 4)) // true
     /// ```
-    #[tactic(auto, using(vecmap_base::proofs::EqualityLemmas::Relations::apart_if_none_shared, vecmap_base::proofs::EqualityLemmas::Relations::none_shared_if_apart))]
+    #[tactic(auto, using(vecmap_base::proofs::EqualityLemmas::Relations::apart_if_none_shared, vecmap_base::proofs::EqualityLemmas::Relations::none_shared_if_apart, crate::proofs::SetLemmas::queries_apart))]
     pub fn is_disjoint(&self, other: &VecSet<T>) -> bool
         ensures value { IsTrue result ↔ (both T.eq self.now.elements other.now.elements ≡ []) }
         ensures members { IsTrue result → (q : T) → IsTrue (is_member T.eq self.now.elements q)
             → is_member T.eq other.now.elements q ≡ false }
+        ensures queries { IsTrue result → (test : T → Bool) → IsKeyTest T.eq test
+            → IsTrue (list_any test self.now.elements) → list_any test other.now.elements ≡ false }
         ensures holds { ((q : T) → IsTrue (is_member T.eq self.now.elements q)
             → is_member T.eq other.now.elements q ≡ false) → IsTrue result }
     {
@@ -47,11 +49,13 @@ impl<T: Eq> VecSet<T> {
     /// let set = vecset!(alloc; 1, 2);
     /// set.is_subset(&vecset!(alloc; 2, 3, 1)) // true
     /// ```
-    #[tactic(auto, using(vecmap_base::proofs::EqualityLemmas::Sets::longer_not_within, vecmap_base::proofs::EqualityLemmas::Sets::test_from_within, vecmap_base::proofs::EqualityLemmas::Sets::within_from_test))]
+    #[tactic(auto, using(vecmap_base::proofs::EqualityLemmas::Sets::longer_not_within, vecmap_base::proofs::EqualityLemmas::Sets::test_from_within, vecmap_base::proofs::EqualityLemmas::Sets::within_from_test, crate::proofs::SetLemmas::queries_within))]
     pub fn is_subset(&self, other: &VecSet<T>) -> bool
         ensures value { result ≡ is_within T.eq self.now.elements other.now.elements }
         ensures members { IsTrue result → (q : T) → IsTrue (is_member T.eq self.now.elements q)
             → IsTrue (is_member T.eq other.now.elements q) }
+        ensures queries { IsTrue result → (test : T → Bool) → IsKeyTest T.eq test
+            → IsTrue (list_any test self.now.elements) → IsTrue (list_any test other.now.elements) }
         ensures holds { ((q : T) → IsTrue (is_member T.eq self.now.elements q)
             → IsTrue (is_member T.eq other.now.elements q)) → IsTrue result }
         ensures len { IsTrue result → length self.now.elements ≤ length other.now.elements }
@@ -79,6 +83,8 @@ impl<T: Eq> VecSet<T> {
         ensures value { result ≡ is_within T.eq other.now.elements self.now.elements }
         ensures members { IsTrue result → (q : T) → IsTrue (is_member T.eq other.now.elements q)
             → IsTrue (is_member T.eq self.now.elements q) }
+        ensures queries { IsTrue result → (test : T → Bool) → IsKeyTest T.eq test
+            → IsTrue (list_any test other.now.elements) → IsTrue (list_any test self.now.elements) }
         ensures holds { ((q : T) → IsTrue (is_member T.eq other.now.elements q)
             → IsTrue (is_member T.eq self.now.elements q)) → IsTrue result }
         ensures len { IsTrue result → length other.now.elements ≤ length self.now.elements }
@@ -111,11 +117,13 @@ impl<T: Eq> PartialEq for VecSet<T> {
     ghost laws = { partial_equiv_from_equiv
         (on_equiv (λ set. set.elements) (set_equality_laws T.eq T.Eq.laws)) };
 
-    #[tactic(auto, using(crate::proofs::SetLemmas::set_equality, crate::proofs::SetLemmas::members_of_equal))]
+    #[tactic(auto, using(crate::proofs::SetLemmas::set_equality, crate::proofs::SetLemmas::members_of_equal, crate::proofs::SetLemmas::queries_of_equal))]
     fn eq(&self, other: &VecSet<T>) -> bool
         ensures value { result ≡ has_same_items T.eq self.now.elements other.now.elements }
         ensures members { IsTrue result → (q : T) → is_member T.eq self.now.elements q
             ≡ is_member T.eq other.now.elements q }
+        ensures queries { IsTrue result → (test : T → Bool) → IsKeyTest T.eq test
+            → list_any test self.now.elements ≡ list_any test other.now.elements }
         ensures len { IsTrue result → length self.now.elements ≡ length other.now.elements }
     {
         let (items, others) = (self.as_slice(), other.as_slice());

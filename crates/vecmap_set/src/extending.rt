@@ -11,14 +11,6 @@ use std::alloc::AllocError;
 
 /// Adds the elements of an iterator in order, like the inherent [`VecSet::extend`].
 ///
-/// # Errors
-///
-/// [`AllocError`] if an allocation fails; the elements added until then stay in the set.
-///
-/// # Preconditions
-///
-/// The iterator ends.
-///
 /// # Examples
 ///
 /// ```
@@ -45,14 +37,6 @@ impl<T: Eq + Drop> Extend<T> for VecSet<T> {
 }
 
 /// Adds copies of the elements of an iterator of references, in order, like the inherent [`VecSet::extend_copied`].
-///
-/// # Errors
-///
-/// [`AllocError`] if an allocation fails; copies of the elements added until then stay in the set.
-///
-/// # Preconditions
-///
-/// The iterator ends.
 ///
 /// # Examples
 ///

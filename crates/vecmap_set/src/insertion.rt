@@ -1,9 +1,9 @@
 //! Insertion of one element.
-ghost use Rattle.std.specs.Prelude.{◌≡◌, ◌+◌, ◌++◌, ◌∷◌, ◌<◌, ◌≤◌, ◌||◌, ◌⊎◌, Bool, Err, IfErr, IfOk, IfSome, IsTrue, None, Ok, OnErr, OnOk, Some, [], false, if◌then◌else◌, length, not, position, slice_get, true, unwrap_or};
+ghost use Rattle.std.specs.Prelude.{◌≡◌, ◌++◌, ◌∷◌, ◌≤◌, ◌||◌, ◌⊎◌, Bool, Err, IfErr, IfOk, IfSome, IsTrue, None, Ok, OnErr, OnOk, Some, [], false, length, not, position, slice_get, unwrap_or};
 ghost use Rattle.std.specs.{List.{IsDistinct, list_any}, Set.is_member};
-ghost use Rattle.vecmap_base.specs.{Items.{item_index, stored_item}, Lookups.UpdatesMember};
-ghost use Rattle.vecmap_set.specs.Contents.{Appends, FailsToAppend, HasRoom, IsFull, KeepsRoom, KeepsRoomAt, Refuses};
-ghost use Rattle.vecmap_set.specs.{Indices.KeepsMatchIndices, Insertions.{AddsItem, PutsItem}};
+ghost use Rattle.vecmap_base.specs.Items.{item_index, stored_item};
+ghost use Rattle.vecmap_set.specs.Contents.{Appends, FailsToAppend, IsFull, KeepsRoom, KeepsRoomAt, Refuses, Reserves};
+ghost use Rattle.vecmap_set.specs.{Indices.FindsAt, Insertions.{AddsItem, AddsItemBy, PutsItem}};
 
 use crate::VecSet;
 use std::alloc::AllocError;
@@ -44,8 +44,6 @@ impl<T: Eq> VecSet<T> {
         ensures capacity { KeepsRoom T.eq self.old item self.new }
         ensures unchanged { IsTrue (is_member T.eq self.old.elements item)
             → self.new ≡ self.old }
-
-        // On `Err` the element is returned, it is new, and the set is full.
         ensures given { IfErr result (λ refused. refused.given ≡ item) }
         ensures err { OnErr result (Refuses T.eq self.old item self.new) }
     {
@@ -65,7 +63,7 @@ impl<T: Eq> VecSet<T> {
     /// set.insert_full(3)? // (2, true)
     /// set.insert_full(1)? // (0, false)
     /// ```
-    #[tactic(auto, using(vecmap_base::proofs::IndexLemmas::list_any_position, crate::proofs::IndexLemmas::at_end))]
+    #[tactic(auto, using(vecmap_base::proofs::IndexLemmas::list_any_position))]
     #[inline]
     pub fn insert_full(&mut self, item: T) -> Result<(usize, bool), Refused<T>>
     where
@@ -73,23 +71,15 @@ impl<T: Eq> VecSet<T> {
         ensures insertion { OnOk result (AddsItem T.eq self.old.elements item self.new.elements) }
         ensures index { IfOk result (λ done. done.0
             ≡ unwrap_or (item_index T.eq self.old.elements item) (length self.old.elements)) }
+        ensures found { IfOk result (λ done. FindsAt (T.eq item) self.new.elements done.0) }
         ensures added { IfOk result
             (λ done. done.1 ≡ not (is_member T.eq self.old.elements item)) }
         ensures distinct { IsDistinct T.eq self.new.elements }
         ensures capacity { KeepsRoom T.eq self.old item self.new }
         ensures unchanged { IsTrue (is_member T.eq self.old.elements item)
             → self.new ≡ self.old }
-
-        // On `Err` the element is returned, it is new, and the set is full.
         ensures given { IfErr result (λ refused. refused.given ≡ item) }
         ensures err { OnErr result (Refuses T.eq self.old item self.new) }
-
-        // What follows for lookups, lengths and indices.
-        ensures within { IfOk result (λ done. done.0 < length self.new.elements) }
-        ensures found { IfOk result
-            (λ done. item_index T.eq self.new.elements item ≡ Some done.0) }
-        ensures at { IfOk result (λ done. (x : T)
-            × (slice_get self.new.elements done.0 ≡ Some x) × IsTrue (T.eq item x)) }
     {
         if let Some(index) = find_item(&self.items, &item) {
             return Ok((index, false));
@@ -99,19 +89,7 @@ impl<T: Eq> VecSet<T> {
         Ok((index, true))
     }
 
-    /// Inserts an element, replacing an equal one, and returns the element that it replaces, if there is one.
-    ///
-    /// If an equal element is present, `item` replaces it at its index; [`VecSet::insert`] would keep the old one. A
-    /// new element is appended.
-    ///
-    /// # Errors
-    ///
-    /// [`Refused`] returns the element if the set is full and allocation fails; the set is then unchanged.
-    ///
-    /// # Complexity
-    ///
-    /// At most `len` comparisons. Allocates only for a new element in a full set, and moves elements only if the vector
-    /// grows.
+    /// Like [`VecSet::insert`], but an equal element is replaced, at its index, and returned.
     ///
     /// # Examples
     ///
@@ -127,8 +105,6 @@ impl<T: Eq> VecSet<T> {
         ensures old { IfOk result (λ old. old ≡ stored_item T.eq self.old.elements item) }
         ensures distinct { IsDistinct T.eq self.new.elements }
         ensures capacity { KeepsRoom T.eq self.old item self.new }
-
-        // On `Err` the element is returned, it is new, and the set is full.
         ensures given { IfErr result (λ refused. refused.given ≡ item) }
         ensures err { OnErr result (Refuses T.eq self.old item self.new) }
     {
@@ -173,8 +149,6 @@ impl<T: Eq> VecSet<T> {
             ≡ Some item) }
         ensures distinct { IsDistinct T.eq self.new.elements }
         ensures capacity { KeepsRoom T.eq self.old item self.new }
-
-        // On `Err` the element is returned, and the set is full.
         ensures given { IfErr result (λ refused. refused.given ≡ item) }
         ensures err { OnErr result (Refuses T.eq self.old item self.new) }
     {
@@ -222,9 +196,9 @@ impl<T: Eq> VecSet<T> {
         F: Drop,
         requires callable { position (Q.equivalent query) self.old.elements ≡ None → F.pre make }
         requires made { (item : T) → F.post make (Ok item) → IsTrue (Q.equivalent query item) }
-        ensures index { IfOk result
-            (λ i. position (Q.equivalent query) self.new.elements ≡ Some i) }
-        ensures within { IfOk result (λ i. i < length self.new.elements) }
+        ensures found { IfOk result (FindsAt (Q.equivalent query) self.new.elements) }
+        ensures insertion { OnOk result (AddsItemBy T.eq (Q.equivalent query) self.old.elements
+            self.new.elements) }
         ensures present { IfSome (position (Q.equivalent query) self.old.elements)
             (λ i. (result ≡ Ok i) × (self.new ≡ self.old)) }
         ensures appended { OnOk result (position (Q.equivalent query) self.old.elements ≡ None
@@ -238,15 +212,6 @@ impl<T: Eq> VecSet<T> {
         ensures unchanged { OnErr result (self.new ≡ self.old) }
         ensures err { IfErr result (λ error. F.post make (Err error) ⊎ FailsToAppend
             E.from_gives (λ item. F.post make (Ok item)) self.old error) }
-
-        // What follows for lookups, lengths and indices.
-        ensures at { IfOk result (λ i. (x : T)
-            × (slice_get self.new.elements i ≡ Some x) × IsTrue (Q.equivalent query x)) }
-        ensures updates { OnOk result (UpdatesMember T.eq (Q.equivalent query) self.old.elements
-            self.new.elements true) }
-        ensures len { OnOk result (length self.new.elements ≡ length self.old.elements
-            + (if list_any (Q.equivalent query) self.old.elements then 0 else 1)) }
-        ensures indices { OnOk result (KeepsMatchIndices self.old.elements self.new.elements) }
     {
         if let Some(index) = find_item_equivalent(&self.items, query) {
             return Ok(index);
@@ -261,12 +226,8 @@ impl<T: Eq> VecSet<T> {
 
     // Reserves capacity for one more element.
     fn reserve_one(&mut self) -> Result<(), AllocError>
-        ensures elements { self.new.elements ≡ self.old.elements }
         ensures distinct { IsDistinct T.eq self.new.elements }
-        ensures room { OnOk result (HasRoom self.new 1) }
-        ensures capacity { self.old.capacity ≤ self.new.capacity }
-        ensures unchanged { HasRoom self.old 1 → self.new ≡ self.old }
-        ensures err { OnErr result (self.new ≡ self.old) }
+        ensures reserved { Reserves 1 self.old result self.new }
         ensures full { OnErr result (IsFull self.old) }
     {
         if self.items.len() < self.items.capacity() {

@@ -21,10 +21,6 @@ impl<T: Eq> VecSet<T> {
     ///
     /// It yields what `self - other` clones. For 1, 2, 3 and 4, 2, 3 it yields 1.
     ///
-    /// # Complexity
-    ///
-    /// No comparisons to create the iterator. A full iteration looks up each element of this set in `other`.
-    ///
     /// # Examples
     ///
     /// ```
@@ -45,11 +41,6 @@ impl<T: Eq> VecSet<T> {
     /// These are the elements of the shorter set that the other set has, in the order of the shorter. If the lengths
     /// are equal, they are elements of this set. For 3, 2, 1 and 1, 2 it yields 1, 2. `self & other` has the same
     /// elements, but always takes them from this set, in its order.
-    ///
-    /// # Complexity
-    ///
-    /// No comparisons to create the iterator. A full iteration looks up each element of the shorter set in the longer
-    /// one.
     ///
     /// # Examples
     ///
@@ -76,10 +67,6 @@ impl<T: Eq> VecSet<T> {
     /// These are the elements of this set that `other` lacks, and then the elements of `other` that this set lacks,
     /// each part in order. It yields what `self ^ other` clones. For 1, 2, 3 and 4, 2, 3 it yields 1, 4.
     ///
-    /// # Complexity
-    ///
-    /// No comparisons to create the iterator. A full iteration looks up each element of either set in the other.
-    ///
     /// # Examples
     ///
     /// ```
@@ -100,11 +87,6 @@ impl<T: Eq> VecSet<T> {
     /// These are all elements of the longer set, and then the elements of the other set that it lacks, each part in
     /// order. If the lengths are equal, this set comes first. For 1 and 2, 3 it yields 2, 3, 1. `self | other` has the
     /// same elements, but always the elements of this set first.
-    ///
-    /// # Complexity
-    ///
-    /// No comparisons to create the iterator. A full iteration looks up each element of the shorter set in the longer
-    /// one.
     ///
     /// # Examples
     ///

@@ -2,7 +2,7 @@
 //!
 //! A lookup by a query compares it with the elements in order, up to the first that matches, and of small elements with
 //! at most seven more: at most `len` comparisons in all. A lookup by index makes none.
-ghost use Rattle.std.specs.Prelude.{◌≡◌, ◌-◌, ◌<◌, IfSome, IsTrue, Some, is_some, length, nat_lt, option_copied, option_map, position, slice_get};
+ghost use Rattle.std.specs.Prelude.{◌≡◌, ◌-◌, ◌<◌, ◌^◌, IfSome, IsTrue, Some, is_some, length, nat_lt, option_copied, option_map, position, slice_get};
 ghost use Rattle.std.specs.{List.list_any, Set.is_member};
 ghost use Rattle.vecmap_base.specs.{Items.{item_index, stored_first}, Pairs.has_text};
 
@@ -141,6 +141,7 @@ impl<T: Eq> VecSet<T> {
         ensures index { option_map (λ found. found.0) result
             ≡ position (Q.equivalent query) self.now.elements }
         ensures within { IfSome result (λ found. found.0 < length self.now.elements) }
+        ensures countable { IfSome result (λ found. found.0 < 2 ^ 63) }
         ensures element { option_map (λ found. found.1.now) result
             ≡ stored_first (Q.equivalent query) self.now.elements }
         ensures found { is_some result ≡ list_any (Q.equivalent query) self.now.elements }
@@ -148,6 +149,7 @@ impl<T: Eq> VecSet<T> {
             (slice_get self.now.elements found.0 ≡ Some found.1.now)
             × IsTrue (Q.equivalent query found.1.now)) }
     {
+        let _len = self.len(); // Bounds the index.
         let index = find_item_equivalent(&self.items, query)?;
         Some((index, &self.items[index]))
     }
@@ -169,10 +171,12 @@ impl<T: Eq> VecSet<T> {
     pub fn get_index_of<Q: Equivalent<T>>(&self, query: Q) -> Option<usize>
         ensures index { result ≡ position (Q.equivalent query) self.now.elements }
         ensures within { IfSome result (λ i. i < length self.now.elements) }
+        ensures countable { IfSome result (λ i. i < 2 ^ 63) }
         ensures found { is_some result ≡ list_any (Q.equivalent query) self.now.elements }
         ensures at { IfSome result (λ i. (x : T)
             × (slice_get self.now.elements i ≡ Some x) × IsTrue (Q.equivalent query x)) }
     {
+        let _len = self.len(); // Bounds the index.
         find_item_equivalent(&self.items, query)
     }
 }

@@ -53,16 +53,8 @@ impl<'a, 'b, T: Eq + Clone> BitAnd<&'b VecSet<T>> for &'a VecSet<T> {
 /// Creates a set of clones of the elements that at least one of the sets has.
 ///
 /// These are all elements of the left set, and then the elements of the right set that the left set lacks, each part in
-/// order. For 1 and 2, 3 it has 1, 2, 3, while [`VecSet::union`] yields 2, 3, 1. The new set has the allocator of the
-/// left set.
-///
-/// # Errors
-///
-/// [`AllocError`] if an allocation fails, for the set or for a clone of an element; no set is created.
-///
-/// # Preconditions
-///
-/// A clone of each of these elements is equal to it.
+/// order. For 1 and 2, 3 it has 1, 2, 3, while [`VecSet::union`] yields 2, 3, 1. The allocator, errors and
+/// preconditions are as for `&`.
 ///
 /// # Complexity
 ///
@@ -94,16 +86,8 @@ impl<'a, 'b, T: Eq + Clone> BitOr<&'b VecSet<T>> for &'a VecSet<T> {
 /// Creates a set of clones of the elements that only one of the sets has.
 ///
 /// These are the elements of the left set that the right set lacks, and then the elements of the right set that the
-/// left set lacks, each part in order. For 1, 2, 3 and 4, 2, 3 it has 1, 4. The new set has the allocator of the left
-/// set.
-///
-/// # Errors
-///
-/// [`AllocError`] if an allocation fails, for the set or for a clone of an element; no set is created.
-///
-/// # Preconditions
-///
-/// A clone of each of these elements is equal to it.
+/// left set lacks, each part in order. For 1, 2, 3 and 4, 2, 3 it has 1, 4. The allocator, errors and preconditions are
+/// as for `&`.
 ///
 /// # Complexity
 ///
@@ -136,15 +120,7 @@ impl<'a, 'b, T: Eq + Clone> BitXor<&'b VecSet<T>> for &'a VecSet<T> {
 
 /// Creates a set of clones of the elements of the left set that the right set lacks, in order.
 ///
-/// For 1, 2, 3 and 4, 2, 3 it has 1. The new set has the allocator of the left set.
-///
-/// # Errors
-///
-/// [`AllocError`] if an allocation fails, for the set or for a clone of an element; no set is created.
-///
-/// # Preconditions
-///
-/// A clone of each of these elements is equal to it.
+/// For 1, 2, 3 and 4, 2, 3 it has 1. The allocator, errors and preconditions are as for `&`.
 ///
 /// # Complexity
 ///

@@ -1,8 +1,9 @@
 //! Removal of elements.
-ghost use Rattle.std.specs.Prelude.{◌≡◌, ◌+◌, ◌<◌, ◌≤◌, ◌&&◌, ◌||◌, Bool, IfNone, IfOk, IfSome, IsOk, OnErr, OnOk, String, [], drop, false, length, string_eq};
+ghost use Rattle.std.specs.Prelude.{◌≡◌, ◌-◌, ◌<◌, ◌≤◌, IfNone, IfOk, IfSome, IsOk, OnErr, String, [], false, length, remove, string_eq};
 ghost use Rattle.std.specs.{Fn.TakesAt, List.{IsDistinct, list_any}};
-ghost use Rattle.vecmap_base.specs.{Asked.{CallableOnEach, CallsAtItem}, Kept.{Kept, ReturnsAt}, Pairs.has_text};
-ghost use Rattle.vecmap_set.specs.Removals.{FindsItem, KeepsFrontItems, RemovesItemAt, RemovesItemBy, RemovesLastItem, SwapRemovesItemAt, SwapRemovesItemBy, Takes};
+ghost use Rattle.vecmap_base.specs.{Asked.{CallableOnEach, CallsAtItem}, Items.{swap_without, swap_without_first, without_first}, Pairs.has_text};
+ghost use Rattle.vecmap_set.specs.Indices.{MovesItemIndex, ShiftsItems};
+ghost use Rattle.vecmap_set.specs.Removals.{FindsItem, KeepsFrontItems, RemovesItemAt, RemovesItemBy, RemovesLastItem, RetainsItems, SplitsItems, Takes};
 
 use crate::VecSet;
 use std::alloc::AllocError;
@@ -85,23 +86,15 @@ impl<T: Eq> VecSet<T> {
     /// set.as_slice() // [1]
     /// part.as_slice() // [2, 3]
     /// ```
-    #[tactic(auto, using(crate::proofs::SetLemmas::distinct_changes, vecmap_base::proofs::ItemsLemmas::Changes::matches_of_parts, crate::proofs::RemovalLemmas::keeps_front_items))]
+    #[tactic(auto, using(crate::proofs::SetLemmas::distinct_changes))]
     pub fn split_off(&mut self, at: usize) -> Result<VecSet<T>, AllocError>
         requires within { at ≤ length self.old.elements }
-        ensures front { OnOk result (KeepsFrontItems at self.old.elements self.new.elements) }
+        ensures split { IfOk result (λ part. SplitsItems T.eq at self.old.elements
+            self.new.elements part.elements) }
         ensures distinct { IsDistinct T.eq self.new.elements }
-        ensures part { IfOk result (λ part. part.elements ≡ drop at self.old.elements) }
-        ensures part_distinct { IfOk result (λ part. IsDistinct T.eq part.elements) }
         ensures capacity { self.new.capacity ≡ self.old.capacity }
         ensures succeeds { at ≡ length self.old.elements → IsOk result }
         ensures err { OnErr result (self.new ≡ self.old) }
-
-        // What follows for lookups, lengths and indices.
-        ensures part_matches { IfOk result (λ part. (test : T → Bool)
-            → list_any test self.old.elements
-            ≡ (list_any test self.new.elements || list_any test part.elements)) }
-        ensures len { IfOk result (λ part. (length self.new.elements ≡ at)
-            × (length self.new.elements + length part.elements ≡ length self.old.elements)) }
     {
         Ok(VecSet {
             items: self.items.split_off(at)?,
@@ -112,9 +105,6 @@ impl<T: Eq> VecSet<T> {
     ///
     /// `f` is called once for each element, in order, in the state that the calls before have left. The other elements
     /// are dropped at the end. The capacity stays.
-    ///
-    /// If `f` only reads what it captures, and does not tell equal elements apart, a proof knows which elements are left
-    /// (`matches`).
     ///
     /// # Preconditions
     ///
@@ -138,16 +128,10 @@ impl<T: Eq> VecSet<T> {
         F: Drop,
         requires callable { CallableOnEach (CallsAtItem F.FnMut)
             (TakesAt F.FnMut) f self.old.elements }
-        ensures retained { (g : F) × Kept
-            (CallsAtItem F.FnMut) f self.old.elements self.new.elements g }
+        ensures retained { RetainsItems (CallsAtItem F.FnMut) f self.old.elements
+            self.new.elements }
         ensures distinct { IsDistinct T.eq self.new.elements }
         ensures capacity { self.new.capacity ≡ self.old.capacity }
-
-        // What follows for lookups, lengths and indices.
-        ensures matches { (query : T → Bool) (kept : Bool)
-            → ReturnsAt (CallsAtItem F.FnMut) f query kept → list_any query self.new.elements
-            ≡ (list_any query self.old.elements && kept) }
-        ensures len { length self.new.elements ≤ length self.old.elements }
     {
         retain_items(&mut self.items, f);
     }
@@ -196,8 +180,8 @@ impl<T: Eq> VecSet<T> {
     where
         T: Drop,
         ensures found { result ≡ list_any (Q.equivalent query) self.old.elements }
-        ensures removal { RemovesItemBy T.eq (Q.equivalent query) self.old.elements
-            self.new.elements }
+        ensures removal { RemovesItemBy T.eq without_first (Q.equivalent query)
+            self.old.elements self.new.elements }
         ensures capacity { self.new.capacity ≡ self.old.capacity }
         ensures unchanged { result ≡ false → self.new ≡ self.old }
     {
@@ -227,17 +211,15 @@ impl<T: Eq> VecSet<T> {
     #[tactic(auto, using(vecmap_base::proofs::DistinctLemmas::Removals::distinct_remove))]
     pub fn remove_index(&mut self, index: usize) -> T
         requires within { index < length self.old.elements }
-        ensures removal { RemovesItemAt T.eq index self.old.elements result
+        ensures removal { RemovesItemAt T.eq remove index self.old.elements result
             self.new.elements }
+        ensures indices { ShiftsItems index self.old.elements self.new.elements }
         ensures capacity { self.new.capacity ≡ self.old.capacity }
     {
         remove_item(&mut self.items, index)
     }
 
-    /// Removes the element that matches `query` and returns `true` if there was one; the last element moves to its
-    /// index.
-    ///
-    /// The element is dropped. If no element matches, nothing changes.
+    /// Like [`VecSet::remove`], but the last element moves to the index of the removed one, and the others keep theirs.
     ///
     /// # Complexity
     ///
@@ -254,19 +236,15 @@ impl<T: Eq> VecSet<T> {
     where
         T: Drop,
         ensures found { result ≡ list_any (Q.equivalent query) self.old.elements }
-        ensures removal { SwapRemovesItemBy T.eq (Q.equivalent query) self.old.elements
-            self.new.elements }
+        ensures removal { RemovesItemBy T.eq swap_without_first (Q.equivalent query)
+            self.old.elements self.new.elements }
         ensures capacity { self.new.capacity ≡ self.old.capacity }
         ensures unchanged { result ≡ false → self.new ≡ self.old }
     {
         self.swap_take(query).is_some()
     }
 
-    /// Removes the element at `index` and returns it; the last element moves to `index`.
-    ///
-    /// # Preconditions
-    ///
-    /// `index` is less than [`VecSet::len`].
+    /// Like [`VecSet::remove_index`], but the last element moves to `index`, and the others keep their indices.
     ///
     /// # Complexity
     ///
@@ -283,8 +261,10 @@ impl<T: Eq> VecSet<T> {
     #[tactic(auto, using(std::proofs::lemmas::Option::gets))]
     pub fn swap_remove_index(&mut self, index: usize) -> T
         requires within { index < length self.old.elements }
-        ensures removal { SwapRemovesItemAt T.eq index self.old.elements result
+        ensures removal { RemovesItemAt T.eq swap_without index self.old.elements result
             self.new.elements }
+        ensures indices { index < length self.old.elements - 1 → MovesItemIndex T.eq
+            (length self.old.elements - 1) index self.old.elements self.new.elements }
         ensures capacity { self.new.capacity ≡ self.old.capacity }
     {
         self.items.swap_remove(index)
@@ -301,8 +281,8 @@ impl<T: Eq> VecSet<T> {
     /// ```
     pub fn take<Q: Equivalent<T>>(&mut self, query: Q) -> Option<T>
         ensures element { FindsItem (Q.equivalent query) self.old.elements result }
-        ensures removal { RemovesItemBy T.eq (Q.equivalent query) self.old.elements
-            self.new.elements }
+        ensures removal { RemovesItemBy T.eq without_first (Q.equivalent query)
+            self.old.elements self.new.elements }
         ensures any { IfSome result (λ x. Takes x self.old.elements self.new.elements) }
         ensures capacity { self.new.capacity ≡ self.old.capacity }
         ensures unchanged { IfNone result (self.new ≡ self.old) }
@@ -322,8 +302,8 @@ impl<T: Eq> VecSet<T> {
     /// ```
     pub fn swap_take<Q: Equivalent<T>>(&mut self, query: Q) -> Option<T>
         ensures element { FindsItem (Q.equivalent query) self.old.elements result }
-        ensures removal { SwapRemovesItemBy T.eq (Q.equivalent query) self.old.elements
-            self.new.elements }
+        ensures removal { RemovesItemBy T.eq swap_without_first (Q.equivalent query)
+            self.old.elements self.new.elements }
         ensures any { IfSome result (λ x. Takes x self.old.elements self.new.elements) }
         ensures capacity { self.new.capacity ≡ self.old.capacity }
         ensures unchanged { IfNone result (self.new ≡ self.old) }
@@ -344,8 +324,8 @@ impl VecSet<String> {
     /// ```
     pub fn remove_str(&mut self, text: &str) -> bool
         ensures found { result ≡ list_any (has_text text.now) self.old.elements }
-        ensures removal { RemovesItemBy string_eq (has_text text.now) self.old.elements
-            self.new.elements }
+        ensures removal { RemovesItemBy string_eq without_first (has_text text.now)
+            self.old.elements self.new.elements }
         ensures capacity { self.new.capacity ≡ self.old.capacity }
         ensures unchanged { result ≡ false → self.new ≡ self.old }
     {

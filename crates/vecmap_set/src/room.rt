@@ -54,7 +54,7 @@ impl<T: Eq> VecSet<T> {
     /// Reserves capacity for at least `additional` more elements.
     ///
     /// The call reserves a surplus, so that a series of insertions seldom allocates. If the spare capacity is already
-    /// enough, it succeeds and the capacity stays. Otherwise all elements may be moved.
+    /// enough, it succeeds and the capacity stays.
     ///
     /// # Errors
     ///
@@ -82,19 +82,7 @@ impl<T: Eq> VecSet<T> {
         self.items.reserve(additional)
     }
 
-    /// Reserves capacity for `additional` more elements, without the surplus that [`VecSet::reserve`] adds.
-    ///
-    /// The allocator may still provide more. If the spare capacity is already enough, the call succeeds and the
-    /// capacity stays. Otherwise all elements may be moved.
-    ///
-    /// # Errors
-    ///
-    /// [`AllocError`] if allocation fails, or if the elements would take more than `isize::MAX` bytes; the set is then
-    /// unchanged.
-    ///
-    /// # Complexity
-    ///
-    /// At most one allocation, which may move all elements.
+    /// Like [`VecSet::reserve`], but without the surplus that it adds. The allocator may still provide more.
     ///
     /// # Examples
     ///
@@ -115,11 +103,6 @@ impl<T: Eq> VecSet<T> {
 
     /// Like [`VecSet::reserve`], but its error is a [`TryReserveError`], as in Rust.
     ///
-    /// # Errors
-    ///
-    /// [`TryReserveError`] if allocation fails, or if the elements would take more than `isize::MAX` bytes; the set is
-    /// then unchanged.
-    ///
     /// # Examples
     ///
     /// ```
@@ -135,11 +118,6 @@ impl<T: Eq> VecSet<T> {
     }
 
     /// Like [`VecSet::reserve_exact`], but its error is a [`TryReserveError`], as in Rust.
-    ///
-    /// # Errors
-    ///
-    /// [`TryReserveError`] if allocation fails, or if the elements would take more than `isize::MAX` bytes; the set is
-    /// then unchanged.
     ///
     /// # Examples
     ///
@@ -157,8 +135,8 @@ impl<T: Eq> VecSet<T> {
 
     /// Reduces the capacity as much as possible.
     ///
-    /// All elements may be moved. The call never fails: if a smaller block cannot be allocated, the capacity stays. If
-    /// there are no elements, nothing is allocated, and the capacity is 0 afterwards.
+    /// The call never fails: if a smaller block cannot be allocated, the capacity stays. If there are no elements,
+    /// nothing is allocated, and the capacity is 0 afterwards.
     ///
     /// # Complexity
     ///
@@ -183,14 +161,7 @@ impl<T: Eq> VecSet<T> {
         self.items.shrink_to_fit();
     }
 
-    /// Reduces the capacity to `min_capacity` or the number of elements, whichever is greater.
-    ///
-    /// A smaller capacity stays as it is. All elements may be moved. The call never fails: if a smaller block cannot be
-    /// allocated, the capacity stays.
-    ///
-    /// # Complexity
-    ///
-    /// At most one allocation, which may move all elements.
+    /// Like [`VecSet::shrink_to_fit`], but keeps a capacity of `min_capacity`. A smaller capacity stays as it is.
     ///
     /// # Examples
     ///

@@ -1,8 +1,9 @@
 //! Binary searches in sorted elements. None allocates.
-ghost use Rattle.std.specs.{Prelude.{◌≡◌, ◌<◌, ◌≤◌, Bool, IfOk, IsTrue, Some, false, is_ok, length, slice_get, true}, List.{All, HoldsAt}};
+ghost use Rattle.std.specs.{Prelude.{◌≡◌, ◌<◌, ◌≤◌, Bool, IfOk, false, is_ok, length, true}, List.{All, HoldsAt}};
 ghost use Rattle.std.specs.List.Sorted.{IsBinarySearchResult, IsPartitionPoint, IsPartitionedBy, IsSearchInRange, IsSorted};
 ghost use Rattle.std.specs.{Set.is_member, declared.cmp.Ordering.Ordering};
-ghost use Rattle.vecmap_base.specs.{Items.item_index, Orders.{CallableOnItem, ReturnsOnItems}};
+ghost use Rattle.vecmap_base.specs.Orders.{CallableOnItem, ReturnsOnItems};
+ghost use Rattle.vecmap_set.specs.Indices.{FindsAt};
 
 use crate::VecSet;
 use std::cmp::Ordering;
@@ -31,13 +32,9 @@ impl<T: Eq> VecSet<T> {
         T: Ord,
         ensures within { IsSearchInRange result (length self.now.elements) }
         ensures index { IsBinarySearchResult (λ x. T.cmp x item.now) self.now.elements result }
-
-        // What follows for lookups, lengths and indices.
+        ensures at { IfOk result (FindsAt (T.eq item.now) self.now.elements) }
         ensures found { IsSorted T.cmp self.now.elements
             → is_ok result ≡ is_member T.eq self.now.elements item.now }
-        ensures at { IfOk result (λ i. (x : T) × (slice_get self.now.elements i ≡ Some x)
-            × IsTrue (T.eq item.now x)) }
-        ensures indexed { IfOk result (λ i. item_index T.eq self.now.elements item.now ≡ Some i) }
     {
         let items = self.items.as_slice();
         search_by_index::<T, _, _>(
@@ -89,17 +86,9 @@ impl<T: Eq> VecSet<T> {
         )
     }
 
-    /// Searches the elements by binary search for the sort key `key`, where `f` returns the sort key of an element.
+    /// Like [`VecSet::binary_search_by`], but `f` returns the sort key of an element, and the search is for `key`.
     ///
-    /// The sort keys are in ascending order. `Ok` and `Err` are as for [`VecSet::binary_search_by`].
-    ///
-    /// # Preconditions
-    ///
-    /// `f` can be called with each element of the set.
-    ///
-    /// # Complexity
-    ///
-    /// As many calls of `f`, and comparisons, as [`VecSet::binary_search`] makes comparisons.
+    /// The sort keys are in ascending order.
     ///
     /// # Examples
     ///

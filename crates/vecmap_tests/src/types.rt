@@ -17,17 +17,21 @@ fn print_map<K: Eq + Clone + Debug + Drop, V: Clone + Debug + Drop>(
     Ok(format!(in alloc; "{:?}", map.as_slice())?)
 }
 
+/// Prints the map of two texts, which are its keys or its values.
+fn print_texts(alloc: Global, are_keys: bool) -> Result<String, Fail> {
+    let (first, second) = ("foo".to_string(alloc)?, "bar".to_string(alloc)?);
+    if are_keys {
+        print_map(alloc, &[(first, 1i64), (second, 2)])
+    } else {
+        print_map(alloc, &[(1i64, first), (2, second)])
+    }
+}
+
 #[test]
 fn from_slice_keeps_distinct_pairs_of_every_kind(rt: HostRuntime) -> Result<(), Fail> {
-    let alloc = rt.alloc();
-    let [a, b, c, d] = ["foo", "bar", "foo", "bar"].map(|text| text.to_string(alloc));
-    let (values, keys) = ([(1i64, a?), (2, b?)], [(c?, 1i64), (d?, 2)]);
-    assert_prints(
-        &rt,
-        print_map(alloc, &values),
-        r#"[(1, "foo"), (2, "bar")]"#,
-    )?;
-    assert_prints(&rt, print_map(alloc, &keys), r#"[("foo", 1), ("bar", 2)]"#)?;
+    let (alloc, values) = (rt.alloc(), r#"[(1, "foo"), (2, "bar")]"#);
+    assert_prints(&rt, print_texts(alloc, false), values)?;
+    assert_prints(&rt, print_texts(alloc, true), r#"[("foo", 1), ("bar", 2)]"#)?;
     let (keys, values) = ([(true, 1i64), (false, 2)], [(1i64, true), (2, false)]);
     assert_prints(&rt, print_map(alloc, &keys), "[(true, 1), (false, 2)]")?;
     assert_prints(&rt, print_map(alloc, &values), "[(1, true), (2, false)]")
@@ -50,12 +54,10 @@ fn print_found(alloc: Global, text: &str) -> Result<String, Fail> {
         map.insert(text.to_string(alloc)?, text.len())?;
         set.insert(text.to_string(alloc)?)?;
     }
-    let found = (
-        find_str(map.as_slice(), text),
-        find_item_str(set.as_slice(), text),
-    );
+    let of_map = find_str(map.as_slice(), text);
+    let of_set = find_item_str(set.as_slice(), text);
     let old = replace(&mut map, text);
-    Ok(format!(in alloc; "{found:?} {old:?} {map:?}")?)
+    Ok(format!(in alloc; "({of_map:?}, {of_set:?}) {old:?} {map:?}")?)
 }
 
 #[test]
@@ -114,12 +116,8 @@ fn numbered_calls(alloc: Global) -> Result<String, Fail> {
 
 #[test]
 fn macros_insert_in_order_and_evaluate_a_key_before_its_value(rt: HostRuntime) -> Result<(), Fail> {
-    let alloc = rt.alloc();
-    assert_prints(
-        &rt,
-        with_commas_at_the_end(alloc),
-        r#"{"a": 3, "b": 2} {2, 1}"#,
-    )?;
+    let (alloc, expected) = (rt.alloc(), r#"{"a": 3, "b": 2} {2, 1}"#);
+    assert_prints(&rt, with_commas_at_the_end(alloc), expected)?;
     assert_prints(&rt, capacities_of_nothing(alloc), "0 0")?;
     assert_prints(&rt, numbered_calls(alloc), "{1: 2, 3: 4}")
 }

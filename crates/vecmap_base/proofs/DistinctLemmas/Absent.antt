@@ -1,6 +1,6 @@
 -- Elements that are equal to no element of a list, or to none before them.
 use Rattle.std.specs.{Cmp.IsEquivalence, List.{IsDistinct, AllByRecursion, list_any}}
-use Rattle.std.proofs.Common.{◌≡◌, Bool, false, ◌||◌, List, [], ◌∷◌, ◌++◌, refl, sym, ap, ◌∙◌, true≢false, inl, inr}
+use Rattle.std.proofs.Common.{arith, ◌≡◌, Bool, false, ◌||◌, List, [], ◌∷◌, ◌++◌, refl, ap, ◌∙◌}
 use Rattle.std.proofs.lemmas.{Bool.cases_Bool, Map.Keys.IsDistinct-cons}
 
 module _ {T : Type 0} (eq : T → T → Bool) where
@@ -9,12 +9,8 @@ module _ {T : Type 0} (eq : T → T → Bool) where
   distinct_none = tt
 
   all_apart : (x : T) (xs : List T) → list_any (eq x) xs ≡ false → AllByRecursion (λ y. eq x y ≡ false) xs
-  all_apart x [] e = tt
-  all_apart x (y ∷ ys) e =
-      elim (cases_Bool (eq x y)) [
-        | inl h ↦ absurd (true≢false (sym (ap (λ b. b || list_any (eq x) ys) h) ∙ e))
-        | inr h ↦ (h, all_apart x ys (sym (ap (λ b. b || list_any (eq x) ys) h) ∙ e))
-      ]
+  all_apart x [] e = grind (arith, cases_Bool)
+  all_apart x (y ∷ ys) e = grind (arith, cases_Bool, (all_apart x ys))
 
   pub none_equal : (x : T) (xs : List T) → AllByRecursion (λ y. eq x y ≡ false) xs → list_any (eq x) xs ≡ false
   none_equal x [] h = refl

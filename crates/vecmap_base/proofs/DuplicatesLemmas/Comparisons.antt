@@ -1,4 +1,5 @@
 -- The number of comparisons that a removal of duplicates makes.
+use Rattle.std.proofs.lemmas.Grind.{common_steps}
 use Rattle.std.specs.{Set.is_member, Map.keys_of, Option.option_map_or}
 use Rattle.std.proofs.Common.{◌≡◌, ℕ, ◌+◌, ◌<◌, ◌≤◌, Bool, true, false, List, [], ◌∷◌, ◌++◌, None, Some, length, take, sym, ap, ◌∙◌, get_or, arith}
 use Rattle.std.proofs.lemmas.{Bool.cases_Bool, List.length-take, List.length_push, List.map-append, List.take_more, List.Quantifiers.position-Some, Map.Entries.length-keys_of}
@@ -50,10 +51,7 @@ module _ {K V : Type 0} (eq : K → K → Bool) where
 
   pub key_comparisons_more : (l : List (K × V)) (i : ℕ) (d : K × V) → i < length l
       → comparisons eq (keys_of (take (i + 1) l)) ≡ comparisons eq (keys_of (take i l)) + search_cost eq (keys_of (puts eq [] (take i l))) (get_or l i d).0
-  key_comparisons_more l i d h =
-      ap (λ m. comparisons eq (keys_of m)) (take_more l i d h) ∙ ap (comparisons eq) (map-append (λ p. p.0) (take i l) (get_or l i d ∷ []))
-      ∙ adds_cost_push eq [] (keys_of (take i l)) (get_or l i d).0
-      ∙ ap (λ ks. comparisons eq (keys_of (take i l)) + search_cost eq ks (get_or l i d).0) (sym (keys_of_puts eq [] (take i l)))
+  key_comparisons_more l i d h = grind (arith, common_steps, take_more, map-append, get_or, adds_cost_push, keys_of_puts)
 
   pub key_comparisons_at_most : (l : List (K × V)) → comparisons eq (keys_of l) ≤ cost (length l)
   key_comparisons_at_most l = grind (arith, length-keys_of, comparisons_at_most)

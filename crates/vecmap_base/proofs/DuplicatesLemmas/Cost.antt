@@ -1,5 +1,5 @@
 -- The most comparisons that a number of items may need.
-use Rattle.std.proofs.Common.{◌≡◌, ℕ, zero, suc, ◌+◌, ◌-◌, ◌*◌, ◌<◌, ◌≤◌, refl, arith}
+use Rattle.std.proofs.Common.{rules, ◌≡◌, ℕ, zero, suc, ◌+◌, ◌-◌, ◌*◌, ◌<◌, ◌≤◌, refl, arith}
 use Rattle.vecmap_base.specs.Comparisons.{cost}
 
 twice_more : (n : ℕ) → (n + 1) * n ≡ n * (n - 1) + 2 * n
@@ -16,6 +16,4 @@ cost_grows m (suc n) k e = grind (arith, cost_more, (cost_grows m n (m + n) refl
 
 -- After `m` of `n` items, the bound leaves enough comparisons for the next one.
 pub cost_below : (m n : ℕ) → m < n → cost m + m ≤ cost n
-cost_below m n lt =
-    let f : n ≡ m + 1 + (n - (m + 1)) = omega arith in
-    omega (arith, cost_more m, cost_grows (m + 1) (n - (m + 1)) n f)
+cost_below m n lt = search (rules, cost_more, cost_grows)

@@ -15,8 +15,7 @@ module _ {X : Type 0} where
 
   -- A swap changes nothing behind both indices.
   pub drop_swap : (xs : List X) (j i k : ℕ) (d : X) → j < k → i < k → j < length xs → i < length xs → drop k (swap xs j i) ≡ drop k xs
-  drop_swap xs j i k d a b l m =
-      ap (drop k) (sym (swap_is xs j i d l m)) ∙ drop-set-lt k (set xs j (get_or xs i d)) i (get_or xs j d) b ∙ drop-set-lt k xs j (get_or xs i d) a
+  drop_swap xs j i k d a b l m = grind (arith, swap_is, drop-set-lt, get_or)
 
   -- A swap of two indices that are in the two parts of a list.
   pub swap_append : (xs ys : List X) (j i : ℕ) (d : X) → length xs ≡ i → j < i → 0 < length ys → swap (xs ++ ys) j i ≡ set xs j (get_or ys 0 d) ++ set ys 0 (get_or xs j d)

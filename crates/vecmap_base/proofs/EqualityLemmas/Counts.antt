@@ -1,7 +1,7 @@
 -- How often elements occur in a list, up to an equivalence.
-use Rattle.std.specs.Prelude.{◌≡◌, ℕ, ◌+◌, ◌<◌, Bool, true, false, ◌&&◌, ◌||◌, nat_eq, List, [], ◌∷◌, length, remove, refl}
+use Rattle.std.specs.Prelude.{◌≡◌, ℕ, ◌+◌, ◌<◌, Bool, true, false, ◌&&◌, nat_eq, List, [], ◌∷◌, length, remove, refl}
 use Rattle.std.specs.{Cmp.{IsEquivalence, both_ways}, List.{count_by, list_all, list_any}}
-use Rattle.std.proofs.{Common.{cond, get_or, sym, ap, ◌∙◌, arith, true≢false, inl, inr}, lemmas.List.Edits.length-remove}
+use Rattle.std.proofs.{Common.{cond, get_or, sym, ap, ◌∙◌, arith, true≢false}, lemmas.List.Edits.length-remove}
 use Rattle.std.proofs.lemmas.Bool.{and_from, and_parts, cases_Bool, eq-eqb, eqb-true, false_from_ne_true, or_left, or_parts, or_right}
 use Rattle.std.proofs.{lemmas.List.Folds.Any-from_list_any, lemmas.List.Sums.{sum_by-cons, sum_by-remove}}
 
@@ -26,30 +26,16 @@ module _ {X : Type 0} (same : X → X → Bool) (o : IsEquivalence same) where
   many-congr l x y e = λ t. count_by (λ z. o.congr x y z e t) l
 
   pub many_absent : (l : List X) (x : X) → list_any (same x) l ≡ false → many l x ≡ 0
-  many_absent [] x e = refl
-  many_absent (y ∷ ys) x e =
-      let apart = or_parts (same x y) (list_any (same x) ys) e in
-      many_cons y ys x ∙ ap (λ b. cond b 1 0 + many ys x) apart.0 ∙ (let rest = many_absent ys x apart.1 in omega (arith, rest))
+  many_absent [] x e = grind (arith, or_parts, many_cons, many)
+  many_absent (y ∷ ys) x e = grind (arith, or_parts, many_cons, many, (many_absent ys x))
 
   pub many_present : (l : List X) (x : X) → list_any (same x) l ≡ true → 0 < many l x
-  many_present [] x e = absurd (true≢false (sym e))
-  many_present (y ∷ ys) x e =
-      elim (cases_Bool (same x y)) [
-        | inl h ↦ let one = ap {B = ℕ} (λ b. cond b 1 0) h in let more = many_cons y ys x in omega (arith, one, more)
-        | inr h ↦
-            let rest = many_present ys x (sym (ap (λ c. c || list_any (same x) ys) h) ∙ e) in
-            let more = many_cons y ys x in
-            omega (arith, rest, more)
-      ]
+  many_present [] x e = grind (arith, cases_Bool, many_cons)
+  many_present (y ∷ ys) x e = grind (arith, cases_Bool, many_cons, (many_present ys x))
 
   pub agreed : (xs a b : List X) (x : X) → all_agree xs a b ≡ true → list_any (same x) xs ≡ true → many a x ≡ many b x
-  agreed [] a b x e h = absurd (true≢false (sym h))
-  agreed (y ∷ ys) a b x e h =
-      let both = and_parts (nat_eq (many a y) (many b y)) (all_agree ys a b) e in
-      elim (cases_Bool (same x y)) [
-        | inl i ↦ many-congr a x y i ∙ eqb-true _ _ both.0 ∙ sym (many-congr b x y i)
-        | inr i ↦ agreed ys a b x both.1 (sym (ap (λ c. c || list_any (same x) ys) i) ∙ h)
-      ]
+  agreed [] a b x e h = grind (arith, and_parts, many, all_agree, cases_Bool, many-congr, eqb-true)
+  agreed (y ∷ ys) a b x e h = grind (arith, and_parts, many, all_agree, cases_Bool, many-congr, eqb-true, (agreed ys a b x))
 
   pub agree_everywhere : (xs a b : List X) → SameCounts a b → all_agree xs a b ≡ true
   agree_everywhere [] a b h = refl

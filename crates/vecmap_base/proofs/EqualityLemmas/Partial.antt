@@ -1,6 +1,7 @@
 -- Equality of counts where an element may differ from itself, as a NaN does. Such elements are taken as equal to each
 -- other, which makes an equivalence of the comparison. Lists that are equal have none of them.
-use Rattle.std.specs.Prelude.{◌≡◌, ℕ, ◌<◌, Bool, true, false, ◌&&◌, ◌||◌, not, nat_eq, List, [], ◌∷◌, length, refl}
+use Rattle.std.proofs.Common.{rules}
+use Rattle.std.specs.Prelude.{◌≡◌, ℕ, ◌<◌, Bool, true, false, ◌&&◌, not, nat_eq, List, [], ◌∷◌, length, refl}
 use Rattle.std.specs.Cmp.{IsEquivalence, IsPartialEquivalence, both_ways, equiv, and_per, on_per, partial_equiv_from_equiv}
 use Rattle.std.specs.List.{count_by, list_all, list_any}
 use Rattle.std.proofs.{Common.{cond, get_or, sym, ap, ◌∙◌, arith, true≢false, inl, inr}, lemmas.List.Folds.list_all_at}
@@ -73,24 +74,16 @@ module _ {X : Type 0} (same : X → X → Bool) (o : IsPartialEquivalence same) 
   none_counted (y ∷ ys) x e = grind (arith, false_from_ne_true, self_left, sum_by-cons, (none_counted ys x e))
 
   pub to_reflexive : (xs a b : List X) → agree xs a b ≡ true → all_reflexive xs ≡ true
-  to_reflexive [] a b h = refl
-  to_reflexive (x ∷ xs) a b h =
-      let parts = and_parts (same x x && nat_eq (count_by (same x) a) (count_by (same x) b)) (agree xs a b) h in
-      and_from _ _ (and_parts (same x x) (nat_eq (count_by (same x) a) (count_by (same x) b)) parts.0).0 (to_reflexive xs a b parts.1)
+  to_reflexive [] a b h = grind (arith, and_parts, agree, and_from)
+  to_reflexive (x ∷ xs) a b h = grind (arith, and_parts, agree, and_from, (to_reflexive xs a b))
 
   pub to_lumps : (xs a b : List X) → agree xs a b ≡ true → lumps_agree xs a b ≡ true
-  to_lumps [] a b h = refl
-  to_lumps (x ∷ xs) a b h =
-      let parts = and_parts (same x x && nat_eq (count_by (same x) a) (count_by (same x) b)) (agree xs a b) h in
-      let here = and_parts (same x x) (nat_eq (count_by (same x) a) (count_by (same x) b)) parts.0 in
-      and_from _ _ ((λ t. nat_eq (counts_are x a here.0 t) (counts_are x b here.0 t)) ∙ here.1) (to_lumps xs a b parts.1)
+  to_lumps [] a b h = grind (arith, and_parts, agree, and_from, counts_are)
+  to_lumps (x ∷ xs) a b h = grind (arith, and_parts, agree, and_from, counts_are, (to_lumps xs a b))
 
   pub from_lumps : (xs a b : List X) → all_reflexive xs ≡ true → lumps_agree xs a b ≡ true → agree xs a b ≡ true
-  from_lumps [] a b s h = refl
-  from_lumps (x ∷ xs) a b s h =
-      let self = and_parts (same x x) (all_reflexive xs) s in
-      let parts = and_parts (nat_eq (count_by (lumped x) a) (count_by (lumped x) b)) (lumps_agree xs a b) h in
-      and_from _ _ (and_from _ _ self.0 (sym (λ t. nat_eq (counts_are x a self.0 t) (counts_are x b self.0 t)) ∙ parts.0)) (from_lumps xs a b self.1 parts.1)
+  from_lumps [] a b s h = grind (arith, and_parts, all_reflexive, lumped, lumps_agree, and_from, counts_are)
+  from_lumps (x ∷ xs) a b s h = grind (arith, and_parts, all_reflexive, lumped, lumps_agree, and_from, counts_are, (from_lumps xs a b))
 
   -- What equality of counts means: each element is equal to itself, and the counts are equal up to `lumped`.
   pub record Alike (a b : List X) : Type 0 where
@@ -122,13 +115,8 @@ module _ {X : Type 0} (same : X → X → Bool) (o : IsPartialEquivalence same) 
 
   -- If counts are equal and one list has only elements that are equal to themselves, so has the other.
   reflexive_along : (xs : List X) (y : X) → all_reflexive xs ≡ true → list_any (lumped y) xs ≡ true → same y y ≡ true
-  reflexive_along [] y s h = absurd (true≢false (sym h))
-  reflexive_along (x ∷ xs) y s h =
-      let self = and_parts (same x x) (all_reflexive xs) s in
-      elim (cases_Bool (lumped y x)) [
-        | inl e ↦ self_right x y (sym (at_self x y self.0) ∙ lumped_turned y x e)
-        | inr e ↦ reflexive_along xs y self.1 (sym (ap (λ c. c || list_any (lumped y) xs) e) ∙ h)
-      ]
+  reflexive_along [] y s h = grind (arith, and_parts, all_reflexive, cases_Bool, lumped, self_right, at_self, lumped_turned)
+  reflexive_along (x ∷ xs) y s h = grind (arith, and_parts, all_reflexive, cases_Bool, lumped, self_right, at_self, lumped_turned, (reflexive_along xs y))
 
   found_in : (a b : List X) (y : X) → SameCounts lumped lumped_laws a b → list_any (lumped y) b ≡ true → list_any (lumped y) a ≡ true
   found_in a b y h e =
@@ -142,10 +130,8 @@ module _ {X : Type 0} (same : X → X → Bool) (o : IsPartialEquivalence same) 
       ]
 
   reflexive_by_counts : (ys a b : List X) → all_reflexive a ≡ true → SameCounts lumped lumped_laws a b → ((y : X) → list_any (lumped y) ys ≡ true → list_any (lumped y) b ≡ true) → all_reflexive ys ≡ true
-  reflexive_by_counts [] a b s h within = refl
-  reflexive_by_counts (y ∷ ys) a b s h within =
-      and_from _ _ (reflexive_along a y s (found_in a b y h (within y (or_left (lumped y y) (list_any (lumped y) ys) (lumped_refl y)))))
-      (reflexive_by_counts ys a b s h (λ z e. within z (or_right (lumped z y) (list_any (lumped z) ys) e)))
+  reflexive_by_counts [] a b s h within = search rules
+  reflexive_by_counts (y ∷ ys) a b s h within = search (rules, and_from, reflexive_along, found_in, or_left, lumped_refl, or_right, (reflexive_by_counts ys a b s h))
 
   -- For lists of one length, it is enough to compare the counts of the elements of one list.
   pub partial_settled_by_half : (a b : List X) → length a ≡ length b → equally_often a b ≡ agree a a b
@@ -179,11 +165,8 @@ module _ {X : Type 0} (same : X → X → Bool) (o : IsPartialEquivalence same) 
       ]
 
   pub agree_by_occurrence : (xs a b : List X) → ((x : X) → list_any (lumped x) xs ≡ true → list_any (lumped x) a ≡ true) → list_all (occurs_alike a b) xs ≡ agree xs a b
-  agree_by_occurrence [] a b within = refl
-  agree_by_occurrence (x ∷ xs) a b within =
-      let here = occurs a x (within x (or_left (lumped x x) (list_any (lumped x) xs) (lumped_refl x))) in
-      let rest = agree_by_occurrence xs a b (λ z e. within z (or_right (lumped z x) (list_any (lumped z) xs) e)) in
-      λ t. (here t && nat_eq (count_by (same x) a) (count_by (same x) b)) && rest t
+  agree_by_occurrence [] a b within = grind (arith, occurs, or_left, lumped, lumped_refl, or_right)
+  agree_by_occurrence (x ∷ xs) a b within = grind (arith, occurs, or_left, lumped, lumped_refl, or_right, (agree_by_occurrence xs a b))
 
 -- If each element is equal to itself, the counts are all that is compared.
 module _ {X : Type 0} (same : X → X → Bool) (o : IsEquivalence same) where

@@ -1,7 +1,7 @@
 -- The laws of the equality of sets, and of one set within another.
-use Rattle.std.specs.{Prelude.{◌≡◌, ◌<◌, ◌≤◌, Bool, true, false, ◌||◌, List, [], ◌∷◌, ◌++◌, length, refl}, Cmp.IsEquivalence, Set.is_member}
+use Rattle.std.specs.{Prelude.{◌≡◌, ◌<◌, ◌≤◌, Bool, true, false, ◌||◌, List, [], ◌∷◌, ◌++◌, length}, Cmp.IsEquivalence, Set.is_member}
 use Rattle.std.specs.List.{IsDistinct}
-use Rattle.std.proofs.{Common.{sym, ap, ◌∙◌, arith, true≢false, length-append, inl, inr}, lemmas.List.Folds.list_any-append}
+use Rattle.std.proofs.{Common.{sym, ◌∙◌, arith, true≢false, length-append, inl, inr}, lemmas.List.Folds.list_any-append}
 use Rattle.std.proofs.lemmas.Bool.{and_from, and_parts, cases_Bool, false_from_ne_true, or_cases, or_left, or_right}
 use Rattle.std.proofs.{lemmas.Map.Keys.IsDistinct-push, lemmas.Map.Made.length-le_from_is_member, lemmas.Map.Steps.list_any_congr}
 use Rattle.vecmap_base.specs.Equality.{has_same_items, is_within}
@@ -12,18 +12,12 @@ module _ {T : Type 0} (eq : T → T → Bool) (o : IsEquivalence eq) where
   Within a b = (x : T) → is_member eq a x ≡ true → is_member eq b x ≡ true
 
   pub within_from_test : (a b : List T) → is_within eq a b ≡ true → Within a b
-  within_from_test [] b e x h = absurd (true≢false (sym h))
-  within_from_test (y ∷ ys) b e x h =
-      let split = and_parts (is_member eq b y) (is_within eq ys b) e in
-      elim (cases_Bool (eq x y)) [
-        | inl i ↦ list_any_congr o x y b i ∙ split.0
-        | inr i ↦ within_from_test ys b split.1 x (sym (ap (λ c. c || is_member eq ys x) i) ∙ h)
-      ]
+  within_from_test [] b e x h = grind (arith, and_parts, cases_Bool, list_any_congr)
+  within_from_test (y ∷ ys) b e x h = grind (arith, and_parts, cases_Bool, list_any_congr, (within_from_test ys b))
 
   pub test_from_within : (a b : List T) → Within a b → is_within eq a b ≡ true
-  test_from_within [] b h = refl
-  test_from_within (y ∷ ys) b h =
-      and_from _ _ (h y (or_left (eq y y) (is_member eq ys y) (o.refl y))) (test_from_within ys b (λ x e. h x (or_right (eq x y) (is_member eq ys x) e)))
+  test_from_within [] b h = grind (arith, and_from, or_left, or_right)
+  test_from_within (y ∷ ys) b h = grind (arith, and_from, or_left, or_right, (test_from_within ys b))
 
   -- Two lists with the same elements, in any order and number, are equal as sets.
   pub same_items : (a b : List T) → ((x : T) → is_member eq a x ≡ is_member eq b x) → has_same_items eq a b ≡ true

@@ -5,16 +5,10 @@ use Rattle.std.proofs.{lemmas.List.{drop-map, length-map, map-append, take-map},
 use Rattle.std.proofs.{lemmas.Option.{none-some, same_Some}, lemmas.Map.Entries.lookup_from_place}
 use Rattle.vecmap_base.specs.{Indices.HasMatchAt, Indices.IsFoundAt, Indices.KeepsIndices, Indices.MovesIndex, Indices.ShiftsIndices}
 use Rattle.vecmap_base.specs.Pairs.{HasDistinctKeys, index_by, lookup_by, without_by}
-use Rattle.vecmap_base.proofs.{PairsLemmas.ByIndex.{lookup_by_index, without_by_index}, PairsLemmas.Distinct.distinct_keys_rearranged}
+use Rattle.vecmap_base.proofs.{IndexLemmas.{position_front, position_stays}, MoveLemmas.front_removed}
+use Rattle.vecmap_base.proofs.PairsLemmas.{ByIndex.{index_by_is, lookup_by_index, without_by_index}, Distinct.distinct_keys_rearranged}
 
--- Without the item at an index: the items before it stay, and so do the results of a function of each other item.
-front_removed : {X : Type 0} (l : List X) (i j : ℕ) → j < i → slice_get (remove l i) j ≡ slice_get l j
-front_removed [] zero j h = refl
-front_removed [] (suc i) j h = refl
-front_removed (x ∷ xs) zero j h = absurd (omega arith)
-front_removed (x ∷ xs) (suc i) zero h = refl
-front_removed (x ∷ xs) (suc i) (suc j) h = front_removed xs i j (omega arith)
-
+-- Without the item at an index, the results of a function of each other item stay.
 removed_each : {X Y : Type 0} (f : X → Y) (l : List X) (i : ℕ) → map f (remove l i) ≡ remove (map f l) i
 removed_each f l i = map-append f (take i l) (drop (suc i) l) ∙ (λ t. sym (take-map f i l) t ++ sym (drop-map f (suc i) l) t)
 
@@ -49,8 +43,7 @@ module _ {K V : Type 0} (test : K → Bool) where
 
   -- A pair that is appended moves no key.
   pub index_stays : (l : List (K × V)) (p : K × V) (i : ℕ) → index_by test l ≡ Some i → index_by test (l ++ p ∷ []) ≡ Some i
-  index_stays [] p i e = absurd (none-some i e)
-  index_stays (q ∷ qs) p i e = stays (test q.0) (index_by test qs) (index_by test (qs ++ p ∷ [])) i (λ j f g. index_stays qs p j f) e
+  index_stays l p i e = index_by_is test (l ++ p ∷ []) ∙ position_front (λ q. test q.0) (p ∷ []) l i (sym (index_by_is test l) ∙ e)
 
   -- Lists with the same keys have them at the same indices.
   pub same_indices : (l m : List (K × V)) → keys_of m ≡ keys_of l → index_by test m ≡ index_by test l
@@ -60,9 +53,7 @@ module _ {K V : Type 0} (test : K → Bool) where
   same_indices (p ∷ ps) (q ∷ qs) e = grind (arith, option_map, (same_indices ps qs (cc)))
 
   pub index_in_front : (n : ℕ) (l : List (K × V)) (i : ℕ) → index_by test l ≡ Some i → i < n → index_by test (take n l) ≡ Some i
-  index_in_front n [] i e h = absurd (none-some i e)
-  index_in_front zero (p ∷ ps) i e h = absurd (omega arith)
-  index_in_front (suc n) (p ∷ ps) i e h = stays (test p.0) (index_by test ps) (index_by test (take n ps)) i (λ j f g. index_in_front n ps j f (omega arith)) e
+  index_in_front n l i e h = index_by_is test (take n l) ∙ position_stays (λ q. test q.0) n l i (sym (index_by_is test l) ∙ e) h
 
   before_removed : (i : ℕ) (l : List (K × V)) (j : ℕ) → index_by test l ≡ Some j → j < i → index_by test (remove l i) ≡ Some j
   before_removed i [] j e h = absurd (none-some j e)

@@ -14,8 +14,7 @@ module _ {K V : Type 0} (test : K → Bool) where
 
   -- The key of an appended pair is at the index after the others, if no other passes.
   pub index_by_appended : (l m : List (K × V)) (p : K × V) → m ≡ l ++ p ∷ [] → index_by test l ≡ None → test p.0 ≡ true → index_by test m ≡ Some (length l)
-  index_by_appended l m p e miss hit =
-      ap (index_by test) e ∙ index_by_is (l ++ p ∷ []) ∙ position_appended (λ q. test q.0) l p (sym (index_by_is l) ∙ miss) hit
+  index_by_appended l m p e miss hit = grind (arith, index_by_is, position_appended)
 
   -- A lookup finds the value at the index.
   pub lookup_by_index : (l : List (K × V)) → lookup_by test l ≡ option_and_then (value_at l) (index_by test l)
@@ -87,8 +86,7 @@ module _ {K V : Type 0} (test : K → Bool) (l : List (K × V)) (i : ℕ) (p : K
 
 module _ {K V : Type 0} (eq : K → K → Bool) (l : List (K × V)) (k : K) (v : V) (i : ℕ) (p : K × V) (found : Some i ≡ index_of eq l k) (within : i < length l) (is : p ≡ get_or l i p) where
   pub value_written : set l i (p.0, v) ≡ put eq l k v
-  value_written =
-      sym (put_by_index eq l k v ∙ ap (λ o. option_map_or (λ j. with_value l j v) o (l ++ (k, v) ∷ [])) (sym found) ∙ ap (λ o. option_map_or (λ q. slice_set l i (q.0, v)) o l) (pair_read (eq k) l i p found within is))
+  value_written = grind (arith, put_by_index, slice_set, pair_read)
 
 -- The definitions by the index, for proofs of functions that find the index first.
 pub ruleset by_index = (lookup_by_index, lookup_pair_by_index, without_by_index, set_value_by_index, put_by_index, put_key_by_index)

@@ -1,6 +1,6 @@
 -- What lookups find in the pairs that a closure has kept.
 use Rattle.std.specs.{List.AllByRecursion, List.IsDistinct, Map.IsKeyTest, Map.keys_of, Option.option_and_then}
-use Rattle.std.proofs.Common.{arith, ◌≡◌, ◌∙◌, Bool, true, false, List, [], ◌∷◌, None, Option, Some, ap, cond, if◌then◌else◌, inl, inr, refl, subst, sym}
+use Rattle.std.proofs.Common.{arith, ◌≡◌, ◌∙◌, Bool, true, false, List, [], ◌∷◌, None, Option, Some, ap, cond, if◌then◌else◌, inl, inr, subst, sym}
 use Rattle.std.proofs.{lemmas.Bool.cases_Bool, lemmas.Map.Keys.{IsDistinct-head, IsDistinct-tail}}
 use Rattle.vecmap_base.specs.{Kept.FiltersValues, Kept.KeepsKeys, Kept.Kept, Kept.ReturnsAtKey, Pairs.HasDistinctKeys, Pairs.lookup_by}
 
@@ -64,30 +64,5 @@ module _ {F K V : Type 0} (R : F → K × V → Bool → K × V → F → Type 0
 
     -- If the closure returns the same at each key that a query matches, the query finds what it found, or nothing.
     pub lookup_by_returned : (kept : Bool) (f g : F) (l m : List (K × V)) → ReturnsAtKey R f test kept → Kept R f l m g → lookup_by test m ≡ (if kept then lookup_by test l else None)
-    lookup_by_returned kept f g [] m told k = ap (lookup_by test) k.0 ∙ none kept None
-      where
-        none : (b : Bool) (x : Option V) → x ≡ (if b then x else x)
-        none true x = refl
-        none false x = refl
-    lookup_by_returned kept f g (p ∷ ps) m told k =
-        let rest = lookup_by_returned kept k.2 g ps k.3 (subst (λ z. ReturnsAtKey R z test kept) (sym call.1) told) k.5 in
-        ap (lookup_by test) k.6 ∙ elim (cases_Bool (test p.0)) [
-          | inl e ↦
-              subst (λ b. lookup_by test (if b then k.1 ∷ k.3 else k.3) ≡ (if kept then Some p.1 else None)) (sym (call.0 e).0) (here kept (ap test key ∙ e) (call.0 e).1 rest)
-              ∙ ap (λ b. if kept then cond b (Some p.1) (lookup_by test ps) else None) (sym e)
-          | inr n ↦ past k.0 (ap test key ∙ n) ∙ rest ∙ ap (λ b. if kept then cond b (Some p.1) (lookup_by test ps) else None) (sym n)
-        ]
-      where
-        key : k.1.0 ≡ p.0
-        key = same f p k.0 k.1 k.2 k.4
-
-        call : (test p.0 ≡ true → (k.0 ≡ kept) × (k.1.1 ≡ p.1)) × (k.2 ≡ f)
-        call = told p k.0 k.1 k.2 k.4
-
-        past : (b : Bool) → test k.1.0 ≡ false → lookup_by test (if b then k.1 ∷ k.3 else k.3) ≡ lookup_by test k.3
-        past true n = ap (λ b. cond b (Some k.1.1) (lookup_by test k.3)) n
-        past false n = refl
-
-        here : (b : Bool) → test k.1.0 ≡ true → k.1.1 ≡ p.1 → lookup_by test k.3 ≡ (if b then lookup_by test ps else None) → lookup_by test (if b then k.1 ∷ k.3 else k.3) ≡ (if b then Some p.1 else None)
-        here true e v r = ap (λ b. cond b (Some k.1.1) (lookup_by test k.3)) e ∙ ap Some v
-        here false e v r = r
+    lookup_by_returned kept f g [] m told k = grind (arith, cases_Bool)
+    lookup_by_returned kept f g (p ∷ ps) m told k = grind (arith, cases_Bool, (lookup_by_returned kept k.2 g ps k.3))

@@ -1,4 +1,5 @@
 -- The keys of a list of pairs, as a list of elements. What changes the pairs changes the keys in the same way.
+use Rattle.std.proofs.lemmas.Grind.{common_steps}
 use Rattle.std.specs.{Map.keys_of, Option.option_map}
 use Rattle.std.proofs.Common.{arith, ◌≡◌, ℕ, suc, Bool, List, [], ◌∷◌, ◌++◌, Some, drop, if◌then◌else◌, insert, refl, reverse, sym, take, ap, ◌∙◌}
 use Rattle.std.proofs.lemmas.List.{drop-map, map-append, reverse-append, take-map}
@@ -10,10 +11,8 @@ module _ {K V : Type 0} where
   keys_of_insert l i k v = map-append (λ p. p.0) (take i l) ((k, v) ∷ drop i l) ∙ sym (λ t. take-map (λ p. p.0) i l t ++ k ∷ drop-map (λ p. p.0) i l t)
 
   pub keys_of_reverse : (l : List (K × V)) → keys_of (reverse l) ≡ reverse (keys_of l)
-  keys_of_reverse [] = refl
-  keys_of_reverse (p ∷ ps) =
-      ap keys_of (reverse-append (p ∷ []) ps) ∙ map-append (λ q. q.0) (reverse ps) (p ∷ []) ∙ ap (λ ks. ks ++ p.0 ∷ []) (keys_of_reverse ps)
-      ∙ sym (reverse-append (p.0 ∷ []) (keys_of ps))
+  keys_of_reverse [] = grind (arith, common_steps, reverse-append, map-append)
+  keys_of_reverse (p ∷ ps) = grind (arith, common_steps, reverse-append, map-append, (keys_of_reverse ps))
 
 module _ {K V : Type 0} (eq : K → K → Bool) where
   pub index_of_is : (l : List (K × V)) (k : K) → index_of eq l k ≡ item_index eq (keys_of l) k

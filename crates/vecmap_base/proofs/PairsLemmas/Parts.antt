@@ -1,13 +1,13 @@
 -- What lookups find in the front of a list, after the insertions of many pairs, and whether anything matches in another order.
-use Rattle.std.specs.{Cmp.IsEquivalence, List.IsDistinct, List.Sorted.IsPermutation, Map.keys_of, Option.option_map, Option.option_or}
-use Rattle.std.proofs.Common.{◌≡◌, ◌∙◌, ◌<◌, ◌≤◌, ℕ, zero, suc, Bool, true, false, List, [], ◌∷◌, ◌++◌, None, Option, Some, ap, arith, cond, if◌then◌else◌, inl, inr, drop, is_some, refl, subst, sym, take}
+use Rattle.std.specs.{Cmp.IsEquivalence, List.IsDistinct, List.Sorted.IsPermutation, Map.keys_of, Option.option_or}
+use Rattle.std.proofs.Common.{◌≡◌, ◌∙◌, ◌<◌, ◌≤◌, ℕ, zero, suc, Bool, true, false, List, [], ◌∷◌, ◌++◌, None, Some, ap, arith, cond, drop, is_some, refl, subst, sym, take}
 use Rattle.std.proofs.{lemmas.Bool.cases_Bool, lemmas.List.{length-take, map-append, take-append-drop, take-map, append-nil, append_assoc}}
 use Rattle.std.proofs.{lemmas.List.Sorted.{list_any-IsPermutation, IsPermutation-append_comm}, lemmas.Map.lookup-none}
 use Rattle.std.proofs.{lemmas.Map.Entries.none_past_head, lemmas.Map.Keys.IsDistinct-tail, lemmas.Option.{none-some, same_Some}}
-use Rattle.vecmap_base.specs.{Lookups.Joins, Lookups.KeepsFront, Pairs.{HasDistinctKeys, index_by, lookup, lookup_by, put, puts}}
-use Rattle.vecmap_base.proofs.{DistinctLemmas.Removals.{distinct_front, distinct_take}, IndexLemmas.is_some_position}
+use Rattle.vecmap_base.specs.{Lookups.{Joins, KeepsFront, MakesPairs}, Pairs.{HasDistinctKeys, index_by, lookup, lookup_by, put, puts}}
+use Rattle.vecmap_base.proofs.{DistinctLemmas.{Absent.distinct_none, Removals.{distinct_front, distinct_take}}, IndexLemmas.is_some_position}
 use Rattle.vecmap_base.proofs.InsertionLemmas.{indices_put}
-use Rattle.vecmap_base.proofs.PairsLemmas.{AtIndices.index_in_front, ByIndex.index_by_is, ByIndex.index_by_none, Distinct.distinct_keys_rearranged, Distinct.distinct_put, Lookups.updates_put, Puts.length_puts_at_most, Puts.put_absent, Puts.puts_not_empty}
+use Rattle.vecmap_base.proofs.PairsLemmas.{AtIndices.index_in_front, ByIndex.{index_by_is, index_by_none, is_some_lookup_by}, Distinct.distinct_keys_rearranged, Distinct.distinct_put, Lookups.updates_put, Puts.{length_puts_at_most, length_puts_least}, Puts.put_absent, Puts.puts_not_empty}
 
 module _ {K V : Type 0} (test : K → Bool) where
   -- A lookup in a list of two parts finds what the first part has, or else what the second has.
@@ -16,41 +16,16 @@ module _ {K V : Type 0} (test : K → Bool) where
   lookup_by_append (p ∷ ps) b = grind (arith, (lookup_by_append ps b))
 
   found_in_front : (n : ℕ) (l : List (K × V)) (i : ℕ) → index_by test l ≡ Some i → i < n → lookup_by test (take n l) ≡ lookup_by test l
-  found_in_front n [] i e h = absurd (none-some i e)
-  found_in_front zero (p ∷ ps) i e h = absurd (omega arith)
-  found_in_front (suc n) (p ∷ ps) i e h =
-      elim (cases_Bool (test p.0)) [
-        | inl t ↦ ap (λ b. cond b (Some p.1) (lookup_by test (take n ps))) t ∙ sym (ap (λ b. cond b (Some p.1) (lookup_by test ps)) t)
-        | inr f ↦ ap (λ r. cond (test p.0) (Some p.1) r) (later (λ j at less. found_in_front n ps j at less) (index_by test ps) refl (sym (ap (λ b. if b then Some 0 else option_map suc (index_by test ps)) f) ∙ e))
-      ]
-    where
-      later : ((j : ℕ) → index_by test ps ≡ Some j → j < n → lookup_by test (take n ps) ≡ lookup_by test ps) → (o : Option ℕ) → index_by test ps ≡ o → option_map suc o ≡ Some i → lookup_by test (take n ps) ≡ lookup_by test ps
-      later rest None at next = absurd (none-some i next)
-      later rest (Some j) at next = let less : suc j ≡ i = same_Some (suc j) i next in rest j at (omega arith)
+  found_in_front n l i e h =
+      grind (arith, (lookup_by_append (take n l) (drop n l)), (take-append-drop n l), (is_some_lookup_by test (take n l)), (index_in_front test n l i e h))
 
   gone_from_front : (n : ℕ) (l : List (K × V)) (i : ℕ) → index_by test l ≡ Some i → n ≤ i → lookup_by test (take n l) ≡ None
-  gone_from_front zero l i e h = refl
-  gone_from_front (suc n) [] i e h = absurd (none-some i e)
-  gone_from_front (suc n) (p ∷ ps) i e h =
-      elim (cases_Bool (test p.0)) [
-        | inl t ↦ let first : 0 ≡ i = same_Some 0 i (sym (ap (λ b. if b then Some 0 else option_map suc (index_by test ps)) t) ∙ e) in absurd (omega arith)
-        | inr f ↦ ap (λ b. cond b (Some p.1) (lookup_by test (take n ps))) f ∙ later (λ j at more. gone_from_front n ps j at more) (index_by test ps) refl (sym (ap (λ b. if b then Some 0 else option_map suc (index_by test ps)) f) ∙ e)
-      ]
-    where
-      later : ((j : ℕ) → index_by test ps ≡ Some j → n ≤ j → lookup_by test (take n ps) ≡ None) → (o : Option ℕ) → index_by test ps ≡ o → option_map suc o ≡ Some i → lookup_by test (take n ps) ≡ None
-      later rest None at next = absurd (none-some i next)
-      later rest (Some j) at next = let less : suc j ≡ i = same_Some (suc j) i next in rest j at (omega arith)
+  gone_from_front zero l i e h = grind (arith, none-some, cases_Bool, same_Some)
+  gone_from_front (suc n) [] i e h = grind (arith, none-some, cases_Bool, same_Some)
+  gone_from_front (suc n) (p ∷ ps) i e h = grind (arith, none-some, cases_Bool, same_Some, (gone_from_front n ps))
 
   absent_in_front : (n : ℕ) (l : List (K × V)) → lookup_by test l ≡ None → lookup_by test (take n l) ≡ None
-  absent_in_front zero l e = refl
-  absent_in_front (suc n) [] e = refl
-  absent_in_front (suc n) (p ∷ ps) e =
-      elim (cases_Bool (test p.0)) [
-        | inl t ↦ absurd (none-some p.1 (sym e ∙ ap (λ b. cond b (Some p.1) (lookup_by test ps)) t))
-        | inr f ↦
-            ap (λ b. cond b (Some p.1) (lookup_by test (take n ps))) f
-            ∙ absent_in_front n ps (sym (ap (λ b. cond b (Some p.1) (lookup_by test ps)) f) ∙ e)
-      ]
+  absent_in_front n l e = grind (arith, (lookup_by_append (take n l) (drop n l)), (take-append-drop n l))
 
   -- In another order, a query matches a key exactly if it did.
   pub matches_rearranged : (l m : List (K × V)) → IsPermutation l m → is_some (index_by test m) ≡ is_some (index_by test l)
@@ -99,13 +74,6 @@ module _ {K V : Type 0} (eq : K → K → Bool) (o : IsEquivalence eq) where
   indices_after test l [] i e = e
   indices_after test l (p ∷ ps) i e = indices_after test (put eq l p.0 p.1) ps i (indices_put eq test l p.0 p.1 i e)
 
-  pub joins_puts : (l pairs : List (K × V)) → Joins eq l pairs (puts eq l pairs)
-  joins_puts l pairs = grind (arith, found_in_either, distinct_after, indices_after, length_puts_at_most, puts_not_empty)
-
-  -- The same of a list that is known to be the one after the insertions.
-  pub joins_of_puts : (l pairs m : List (K × V)) → m ≡ puts eq l pairs → Joins eq l pairs m
-  joins_of_puts l pairs m e = subst (Joins eq l pairs) (sym e) (joins_puts l pairs)
-
   -- Pairs whose keys are new and distinct are appended.
   pub puts_apart : (l m : List (K × V)) → HasDistinctKeys eq (l ++ m) → puts eq l m ≡ l ++ m
   puts_apart l [] d = sym (append-nil l)
@@ -120,3 +88,11 @@ module _ {K V : Type 0} (eq : K → K → Bool) (o : IsEquivalence eq) where
   -- A list of distinct keys has no duplicates, so its insertions into the empty list make the list itself.
   pub puts_distinct : (l : List (K × V)) → HasDistinctKeys eq l → puts eq [] l ≡ l
   puts_distinct l d = puts_apart [] l d
+
+  -- After the insertions of many pairs.
+  pub joins_of_puts : (l pairs m : List (K × V)) → m ≡ puts eq l pairs → Joins eq l pairs m
+  joins_of_puts l pairs m e = grind (arith, found_in_either, distinct_after, indices_after, length_puts_at_most, length_puts_least, puts_not_empty, puts_apart)
+
+  -- The same of the empty list.
+  pub makes_pairs : (pairs m : List (K × V)) → m ≡ puts eq [] pairs → MakesPairs eq pairs m
+  makes_pairs pairs m e = grind (arith, (joins_of_puts [] pairs m e), puts_distinct, (distinct_none eq))

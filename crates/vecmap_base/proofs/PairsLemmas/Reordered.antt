@@ -1,5 +1,6 @@
 -- A list of pairs in another order, in the words of contracts.
-use Rattle.std.specs.Prelude.{◌≡◌, ◌-◌, ◌<◌, ℕ, Bool, List, Some, false, length, nat_eq, reverse, suc, swap}
+use Rattle.std.proofs.Common.{rules}
+use Rattle.std.specs.Prelude.{◌≡◌, ◌-◌, ◌<◌, ℕ, Bool, List, Some, length, reverse, suc, swap}
 use Rattle.std.specs.{Cmp.IsEquivalence, List.Sorted.IsPermutation, Map.IsKeyTest, Map.keys_of}
 use Rattle.std.proofs.{Common.{◌∙◌, ap, arith, subst, sym}, lemmas.Option.slice_get_within}
 use Rattle.std.proofs.lemmas.List.Sorted.{IsPermutation-reverse, IsPermutation-swap, length_permutation}
@@ -12,13 +13,7 @@ use Rattle.vecmap_base.proofs.PairsLemmas.Updates.{lookups_rearranged}
 
 module _ {K V : Type 0} (l m : List (K × V)) where
   pub reordered : IsPermutation l m → IsReordered l m
-  reordered p = record {
-    rearranged = p;
-    matches = λ test. matches_rearranged test l m p;
-    lookups = λ eq o d. lookups_rearranged eq o l m p d;
-    len = length_permutation l m p;
-    equal = λ key value k v. equal_rearranged key value k v l m p;
-  }
+  reordered p = search (rules, matches_rearranged, lookups_rearranged, length_permutation, equal_rearranged)
 
   pub reverses_pairs : m ≡ reverse l → ReversesPairs l m
   reverses_pairs e = record { entries = e; reordered = reordered permuted; moves = moves; indices = indices; keys = ap keys_of e ∙ keys_of_reverse l }
@@ -36,15 +31,7 @@ module _ {K V : Type 0} (l m : List (K × V)) where
           (moves i (slice_get_within l i (found.0, found.1) found.2)).query eq test o respects d at
 
   pub swaps_pairs : (i j : ℕ) → i < length l → j < length l → m ≡ swap l i j → SwapsPairs i j l m
-  swaps_pairs i j h k e =
-      let permuted = IsPermutation-swap l m i j h k e in
-      record {
-        entries = e;
-        reordered = reordered permuted;
-        moves = moves_index l m i j permuted (swapped_item l m i j e h k);
-        moves_back = moves_index l m j i permuted (swapped_item_back l m i j e h k);
-        elsewhere = λ n f g. moves_index l m n n permuted (swapped_other l m i j n e h k f g);
-      }
+  swaps_pairs i j h k e = search (rules, IsPermutation-swap, reordered, moves_index, swapped_item, swapped_item_back, swapped_other)
 
   pub moves_pair : (i j : ℕ) → IsPermutation l m → m ≡ moved l i j → i < length l → j < length l → MovesPair i j l m
   moves_pair i j permuted e h k = record {

@@ -2,7 +2,7 @@
 use Rattle.std.specs.{Map.keys_of, Map.values_of, Option.option_map}
 use Rattle.std.proofs.Common.{◌≡◌, ◌∙◌, ◌<◌, ℕ, zero, suc, All, Bool, List, [], ◌∷◌, None, Option, Some, IsSome, ap, arith, length, refl, subst, sym, true≢false}
 use Rattle.std.proofs.lemmas.List.Elements.{All-cons, All-nil}
-use Rattle.vecmap_base.specs.{Indices.KeepsIndices, Pairs.lookup_by, Pairs.map_values, Pairs.value_at}
+use Rattle.vecmap_base.specs.{Pairs.{lookup_by, map_values, value_at}, Updated.SetsValues}
 use Rattle.vecmap_base.proofs.{PairsLemmas.AtIndices.keeps_indices, PairsLemmas.Indices.lookup_by_map_values}
 
 set_if_found : {V W : Type 0} (w : W) (found : Option V) → IsSome found → option_map (λ _. w) found ≡ Some w
@@ -19,10 +19,10 @@ module _ {K V W : Type 0} (w : W) where
   all_values_set (p ∷ ps) = All-cons (λ x. x ≡ w) w (values_of (map_values (λ _. w) ps)) refl (all_values_set ps)
 
   module _ (l : List (K × V)) (m : List (K × W)) (e : m ≡ map_values (λ _. w) l) where
-    pub set_found : (test : K → Bool) → IsSome (lookup_by test l) → lookup_by test m ≡ Some w
+    set_found : (test : K → Bool) → IsSome (lookup_by test l) → lookup_by test m ≡ Some w
     set_found test some = ap (lookup_by test) e ∙ lookup_by_map_values (λ _. w) test l ∙ set_if_found w (lookup_by test l) some
 
-    pub values_set : All (λ x. x ≡ w) (values_of m)
+    values_set : All (λ x. x ≡ w) (values_of m)
     values_set = subst (λ n. All (λ x. x ≡ w) (values_of n)) (sym e) (all_values_set l)
 
 module _ {K V : Type 0} (w : V) where
@@ -32,9 +32,14 @@ module _ {K V : Type 0} (w : V) where
   set_at (p ∷ ps) (suc i) h = set_at ps i (omega arith)
 
   -- The value is at each index.
-  pub value_set_at : (l m : List (K × V)) → m ≡ map_values (λ _. w) l → (i : ℕ) → i < length l → value_at m i ≡ Some w
+  value_set_at : (l m : List (K × V)) → m ≡ map_values (λ _. w) l → (i : ℕ) → i < length l → value_at m i ≡ Some w
   value_set_at l m e i h = ap (λ n. value_at n i) e ∙ set_at l i h
 
--- The keys stay.
-pub keys_set : {K V : Type 0} (w : V) (l m : List (K × V)) → m ≡ map_values (λ _. w) l → KeepsIndices l m
-keys_set w l m e = keeps_indices l m (ap keys_of e ∙ keys_stay w l)
+pub sets_values : {K V : Type 0} (w : V) (l m : List (K × V)) → m ≡ map_values (λ _. w) l → SetsValues w l m
+sets_values w l m e = record {
+  entries = e;
+  lookups = set_found w l m e;
+  values = values_set w l m e;
+  at = value_set_at w l m e;
+  keys = keeps_indices l m (ap keys_of e ∙ keys_stay w l);
+}

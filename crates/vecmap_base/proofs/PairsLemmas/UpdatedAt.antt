@@ -1,11 +1,14 @@
 -- What lookups find after a write of the value at an index.
-use Rattle.std.specs.{List.IsDistinct, Map.set_value, Option.option_map_or}
+use Rattle.std.specs.{Cmp.IsEquivalence, List.IsDistinct, Map.IsKeyTest, Map.set_value, Option.option_map_or}
 use Rattle.std.proofs.Common.{◌≡◌, ◌∙◌, ℕ, Bool, List, [], ◌∷◌, Some, IsSome, ap, cond, inl, inr, is_some, subst, sym, true≢false}
-use Rattle.std.proofs.lemmas.Bool.{cases_Bool}
-use Rattle.vecmap_base.specs.{Indices.KeepsIndices, Lookups.UpdatesAt, Pairs.index_by, Pairs.lookup_by, Pairs.with_value}
+use Rattle.std.proofs.lemmas.{Bool.cases_Bool, Map.keys-set_value}
+use Rattle.vecmap_base.specs.{Indices.KeepsIndices, Lookups.{UpdatesAt, WritesBy}, Pairs.index_by, Pairs.lookup_by, Pairs.with_value}
 use Rattle.vecmap_base.proofs.{PairsLemmas.AtIndices.keeps_indices, PairsLemmas.ByIndex.{is_some_lookup_by, set_value_by_index}}
-use Rattle.vecmap_base.proofs.PairsLemmas.Updates.{updates_matched, updates_written_at}
+use Rattle.vecmap_base.proofs.PairsLemmas.Updates.{updates_matched, updates_write, updates_written_at}
 use Rattle.vecmap_base.proofs.PairsLemmas.Values.{keys_of_with_value, values_of_with_value}
+
+pub writes_by : {K V : Type 0} (eq : K → K → Bool) (o : IsEquivalence eq) (test : K → Bool) → IsKeyTest eq test → (l : List (K × V)) → WritesBy eq test l
+writes_by eq o test respects l = record { updates = updates_write eq o test respects l; keys = λ v. keeps_indices l _ (keys-set_value test l v) }
 
 module _ {K V : Type 0} where
   own_value : (test : K → Bool) (l : List (K × V)) (i : ℕ) (v : V) → index_by test l ≡ Some i → lookup_by test (with_value l i v) ≡ Some v

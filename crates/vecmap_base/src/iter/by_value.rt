@@ -18,6 +18,7 @@ use std::marker::{Model, PhantomData};
 /// `IntoIter`, `IntoKeys` and `IntoValues` of a map and `IntoIter` of a set are this type. If the iterator is dropped,
 /// the items that are left are dropped too.
 pub struct IntoIterOf<X, T, P: Projection<X, T>> {
+    // Uses the memory of the vector. The clone of a `vec::IntoIter` would promise its length alone.
     items: VecDeque<X>,
     part: PhantomData<(T, P)>,
 }
@@ -30,7 +31,8 @@ impl<X, T, P: Projection<X, T>> Model for IntoIterOf<X, T, P> {
     ghost view = { λ a. map P.part a.items.items };
 }
 
-// Not derived, so that the proof of a loop that ends early still knows which items were taken.
+// Not derived, so that the proof of a loop that ends early still knows which items were taken, and so that a recursion
+// over a map that is moved is proved to end.
 impl<X: Drop, T, P: Projection<X, T>> Drop for IntoIterOf<X, T, P> {
     fn drop(self) {
         let IntoIterOf { items, part: _ } = self;

@@ -1,5 +1,5 @@
 -- Removals after a write at an index or after an append, and the item that is then found. By induction on the list.
-use Rattle.std.proofs.Common.{◌≡◌, ℕ, zero, suc, ◌-◌, ◌<◌, List, [], ◌∷◌, ◌++◌, Some, ap, arith, length, refl, remove, set, slice_get, sym, take_at, ◌∙◌}
+use Rattle.std.proofs.Common.{◌≡◌, ℕ, zero, suc, ◌<◌, List, [], ◌∷◌, ◌++◌, Some, ap, arith, length, refl, remove, set, slice_get, sym, take_at, ◌∙◌}
 use Rattle.std.proofs.Math.Nat.{eq-or-lt_of_le}
 use Rattle.std.proofs.lemmas.List.{get_or-set_other, get_or_default, length-append, length-set, set-set, take-set-le}
 use Rattle.std.specs.{List.swap_remove, Option.option_map_or}

@@ -1,5 +1,5 @@
 //! The entry of a key that is present.
-ghost use Rattle.std.specs.{Prelude.{◌≡◌, ◌<◌, IfOk, IsOk, Some, length}, Borrow.sem};
+ghost use Rattle.std.specs.{Prelude.{◌≡◌, ◌<◌, ◌^◌, IfOk, IsOk, Some, length}, Borrow.sem};
 
 use crate::VecMap;
 use std::mem::replace;
@@ -48,8 +48,10 @@ impl<'a, K, V> OccupiedEntry<'a, K, V> {
     /// entry.index() // 1
     /// ```
     pub fn index(&self) -> usize
-        ensures { result ≡ entry_index (Occupied self.now) }
+        ensures index { result ≡ entry_index (Occupied self.now) }
+        ensures countable { result < 2 ^ 63 }
     {
+        let _len = self.map.len(); // Bounds the index.
         self.index
     }
 

@@ -1,5 +1,5 @@
 //! The entry of a key that is not present.
-ghost use Rattle.std.specs.{Prelude.{◌≡◌, IfErr, IfOk, OnErr}, Borrow.sem};
+ghost use Rattle.std.specs.{Prelude.{◌≡◌, ◌<◌, ◌^◌, IfErr, IfOk, OnErr}, Borrow.sem};
 ghost use Rattle.vecmap_map.specs.Contents.{IsFull};
 
 use super::OccupiedEntry;
@@ -40,7 +40,8 @@ impl<'a, K, V> VacantEntry<'a, K, V> {
     /// matches!(map.entry('c'), Entry::Vacant(entry) if entry.index() == 2) // true
     /// ```
     pub fn index(&self) -> usize
-        ensures { result ≡ entry_index (Vacant self.now) }
+        ensures index { result ≡ entry_index (Vacant self.now) }
+        ensures countable { result < 2 ^ 63 }
     {
         self.map.len()
     }

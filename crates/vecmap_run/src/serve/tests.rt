@@ -1,7 +1,8 @@
 //! Whole runs, over readers and writers in memory.
-use super::{Fault, serve};
+use super::serve;
 use std::alloc::Global;
 use std::cell::Cell;
+use std::fmt::Write as _;
 use std::io;
 use std::io::{Error, ErrorKind, Read, Write};
 use std::process::Abort;
@@ -84,21 +85,6 @@ struct FakeWriter<'a> {
     written: &'a Cell<usize>,
 }
 
-impl<'a> FakeWriter<'a> {
-    fn new(alloc: Global, room: usize, written: &'a Cell<usize>) -> FakeWriter<'a> {
-        FakeWriter {
-            bytes: Vec::new(alloc),
-            room,
-            writes: 0,
-            written,
-        }
-    }
-
-    fn text(&self) -> &str {
-        str::from_utf8(&self.bytes).unwrap_or("not text")
-    }
-}
-
 impl Write for FakeWriter<'_> {
     fn write(&mut self, buf: &[u8]) -> io::Result<usize> {
         self.writes = self.writes.saturating_add(1);
@@ -115,6 +101,26 @@ impl Write for FakeWriter<'_> {
     fn flush(&mut self) -> io::Result<()> {
         Ok(())
     }
+}
+
+/// Asserts what a run returns, how often it writes, and what, if the writer accepts `room` bytes.
+fn assert_run(
+    rt: &(impl AllocGlobal + Abort),
+    reader: &mut FakeReader<'_>,
+    room: usize,
+    expected: &str,
+) -> Result<(), Fail> {
+    let mut writer = FakeWriter {
+        bytes: Vec::new(rt.alloc()),
+        room,
+        writes: 0,
+        written: reader.written,
+    };
+    let outcome = serve(rt.alloc(), reader, &mut writer);
+    let (writes, text) = (writer.writes, str::from_utf8(&writer.bytes)?);
+    let found = format!(in rt.alloc(); "{outcome:?} after {writes} writes: {text}")?;
+    assert_eq!(*rt; found.as_str(), expected);
+    Ok(())
 }
 
 #[test]
@@ -237,18 +243,16 @@ fn takes_the_last_line_without_its_end(rt: HostRuntime) -> Result<(), Fail> {
 
 #[test]
 fn prints_a_list_longer_than_its_buffer(rt: HostRuntime) -> Result<(), Fail> {
-    let mut input = String::new(rt.alloc());
-    let mut output = String::new(rt.alloc());
-    let mut list = String::new(rt.alloc());
+    let (mut input, mut output) = (String::new(rt.alloc()), String::new(rt.alloc()));
     for number in 0..1000 {
-        input.push_str(format!(in rt.alloc(); "insert key_{number} {number}\n")?.as_str())?;
+        writeln!(input, "insert key_{number} {number}")?;
         output.push_str("none\n")?;
-        let gap = if number == 0 { "" } else { " " };
-        list.push_str(format!(in rt.alloc(); "{gap}key_{number}={number}")?.as_str())?;
     }
     input.push_str("list")?;
-    output.push_str(list.as_str())?;
-    output.push_str("\n")?;
+    for number in 0..1000 {
+        let end = if number < 999 { ' ' } else { '\n' };
+        write!(output, "key_{number}={number}{end}")?;
+    }
     assert_served(&rt, input.as_bytes(), output.as_str())
 }
 
@@ -259,43 +263,39 @@ fn reads_in_any_pieces(rt: HostRuntime) -> Result<(), Fail> {
         let mut reader = FakeReader::new(b"insert a 1\ninsert a 2\nlist", &written);
         reader.most = most;
         reader.is_interrupted = true;
-        let mut writer = FakeWriter::new(rt.alloc(), usize::MAX, &written);
-        assert!(rt; serve(rt.alloc(), &mut reader, &mut writer) == Ok(()));
-        assert!(rt; writer.text() == "none\nsome 1\na=2\n");
-        assert!(rt; writer.writes == 3);
+        let expected = "Ok(()) after 3 writes: none\nsome 1\na=2\n";
+        assert_run(&rt, &mut reader, usize::MAX, expected)?;
     }
     Ok(())
 }
 
 #[test]
 fn stops_if_a_read_fails(rt: HostRuntime) -> Result<(), Fail> {
-    let runs = [("", ""), ("len", ""), ("insert a 1\nget", "none\n")];
-    for (input, output) in runs {
+    for (input, expected) in [
+        ("", "Err(Reading) after 0 writes: "),
+        ("len", "Err(Reading) after 0 writes: "),
+        ("insert a 1\nget", "Err(Reading) after 1 writes: none\n"),
+    ] {
         let written = Cell::new(0);
         let mut reader = FakeReader::new(input.as_bytes(), &written);
         reader.failure = Some(ErrorKind::Other);
-        let mut writer = FakeWriter::new(rt.alloc(), usize::MAX, &written);
-        assert!(rt; serve(rt.alloc(), &mut reader, &mut writer) == Err(Fault::Reading));
-        assert!(rt; writer.text() == output, "at {input:?}");
+        assert_run(&rt, &mut reader, usize::MAX, expected)?;
     }
     Ok(())
 }
 
 #[test]
 fn stops_if_a_write_fails(rt: HostRuntime) -> Result<(), Fail> {
-    let runs = [
-        (0, ""),
-        (2, "no"),
-        (5, "none\n"),
-        (8, "none\nsom"),
-        (12, "none\nsome 1\n"),
-    ];
-    for (room, output) in runs {
+    for (room, expected) in [
+        (0, "Err(Writing) after 1 writes: "),
+        (2, "Err(Writing) after 2 writes: no"),
+        (5, "Err(Writing) after 2 writes: none\n"),
+        (8, "Err(Writing) after 3 writes: none\nsom"),
+        (12, "Err(Writing) after 3 writes: none\nsome 1\n"),
+    ] {
         let written = Cell::new(0);
         let mut reader = FakeReader::new(b"insert a 1\ninsert a 2\nlist\n", &written);
-        let mut writer = FakeWriter::new(rt.alloc(), room, &written);
-        assert!(rt; serve(rt.alloc(), &mut reader, &mut writer) == Err(Fault::Writing));
-        assert!(rt; writer.text() == output, "at {room}");
+        assert_run(&rt, &mut reader, room, expected)?;
         assert!(rt; reader.reads == 1, "at {room}");
     }
     Ok(())
@@ -303,11 +303,12 @@ fn stops_if_a_write_fails(rt: HostRuntime) -> Result<(), Fail> {
 
 /// Each line is one read of 11 bytes. The answers are `none`, `some 1` and `some 2`.
 #[test]
-fn writes_each_answer_before_the_next_read(rt: HostRuntime) {
+fn writes_each_answer_before_the_next_read(rt: HostRuntime) -> Result<(), Fail> {
     let written = Cell::new(0);
     let mut reader = FakeReader::new(b"insert a 1\ninsert a 2\ninsert a 3\n", &written);
     reader.most = 11;
-    let mut writer = FakeWriter::new(rt.alloc(), usize::MAX, &written);
-    assert!(rt; serve(rt.alloc(), &mut reader, &mut writer) == Ok(()));
+    let expected = "Ok(()) after 3 writes: none\nsome 1\nsome 2\n";
+    assert_run(&rt, &mut reader, usize::MAX, expected)?;
     assert!(rt; reader.written_before == [0, 5, 12, 19]);
+    Ok(())
 }

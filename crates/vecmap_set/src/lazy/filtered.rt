@@ -49,7 +49,7 @@ pub struct FilteredOf<'a, T: Eq, P: Presence> {
 }
 
 /// An iterator over the elements of one set that another lacks, in order.
-/// [`VecSet::difference`](crate::VecSet::difference) creates one.
+/// [`VecSet::difference`](crate::VecSet::difference) creates one, without comparisons.
 ///
 /// # Complexity
 ///
@@ -66,7 +66,7 @@ pub struct FilteredOf<'a, T: Eq, P: Presence> {
 pub type Difference<'a, T: Eq> = FilteredOf<'a, T, Absent>;
 
 /// An iterator over the elements of the shorter of two sets that the other has, in order.
-/// [`VecSet::intersection`](crate::VecSet::intersection) creates one.
+/// [`VecSet::intersection`](crate::VecSet::intersection) creates one, without comparisons.
 ///
 /// # Complexity
 ///

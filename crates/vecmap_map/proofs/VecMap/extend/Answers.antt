@@ -24,38 +24,32 @@ loop-key-preserved g c = record {
   stays = grind (arith, common_steps, length_put_at_most);
 }
 
-pub returns-in_err-insert-clause-extended : goal.returns-in_err-insert-clause-extended
-returns-in_err-insert-clause-extended g c =
-    let failed = err_from_is_err_and c.from_residual-in_err-insert.result c.from_residual-in_err-insert.ensures.1 in
-    let it = c.into_iter-key-iterator.result in
-    record {
-      capacity = grind (arith, common_steps);
-      capacity_stays = λ room. let all = room it (search rules) in grind (arith, common_steps);
-      err = rw failed.1 (inr (it, c.loop-key.yielded, (c.in-Some.key, c.in-Some.value), c.next.new.self, search rules, search rules, search rules));
-      late_err = λ some room. rw failed.1 (it, c.loop-key.yielded, (c.in-Some.key, c.in-Some.value), c.next.new.self, search rules, search rules, search rules);
-    }
-
 pub returns-clause-ran : goal.returns-clause-ran
 returns-clause-ran g c = search rules
 
 pub returns-in_err-insert-clause-ran : goal.returns-in_err-insert-clause-ran
 returns-in_err-insert-clause-ran g c = search rules
 
+pub returns-in_err-insert-clause-extended : goal.returns-in_err-insert-clause-extended
+returns-in_err-insert-clause-extended g c =
+    let failed = err_from_is_err_and c.from_residual-in_err-insert.result c.from_residual-in_err-insert.ensures.1 in
+    let it = c.into_iter-key-iterator.result in
+    record {
+      capacity = grind (arith, common_steps);
+      distinct = let ran = returns-in_err-insert-clause-ran g c in (joins_of_puts g.K.PartialEq.eq g.met.K.Eq.laws c.args.self.now.entries ran.1 _ ran.3).distinct;
+      capacity_stays = λ room. let all = room it (search rules) in grind (arith, common_steps);
+      err = rw failed.1 (inr (it, c.loop-key.yielded, (c.in-Some.key, c.in-Some.value), c.next.new.self, search rules, search rules, search rules));
+      late_err = λ some room. rw failed.1 (it, c.loop-key.yielded, (c.in-Some.key, c.in-Some.value), c.next.new.self, search rules, search rules, search rules);
+    }
+
+pub returns-clause-extended : goal.returns-clause-extended
+returns-clause-extended g c =
+    let ran = returns-clause-ran g c in
+    let distinct = (joins_of_puts g.K.PartialEq.eq g.met.K.Eq.laws c.args.self.now.entries ran.1 _ ran.3).distinct in
+    search (rules, distinct)
+
 pub returns-clause-joins : goal.returns-clause-joins
 returns-clause-joins g c pairs yields =
     let ran = returns-clause-ran g c in
     let old = c.args.self.now.entries in
     joins_of_puts g.K.PartialEq.eq g.met.K.Eq.laws old pairs _ (ran.3 ∙ ap (puts g.K.PartialEq.eq old) (yields ran.0 ran.1 ran.2 ran.4))
-
-pub returns-clause-lookups : goal.returns-clause-lookups
-returns-clause-lookups g c pairs yields d = (returns-clause-joins g c pairs yields).lookups d
-
-pub returns-clause-distinct : goal.returns-clause-distinct
-returns-clause-distinct g c =
-    let ran = returns-clause-ran g c in
-    (joins_of_puts g.K.PartialEq.eq g.met.K.Eq.laws c.args.self.now.entries ran.1 _ ran.3).distinct
-
-pub returns-in_err-insert-clause-distinct : goal.returns-in_err-insert-clause-distinct
-returns-in_err-insert-clause-distinct g c =
-    let ran = returns-in_err-insert-clause-ran g c in
-    (joins_of_puts g.K.PartialEq.eq g.met.K.Eq.laws c.args.self.now.entries ran.1 _ ran.3).distinct

@@ -20,6 +20,7 @@ returns-in_err-put_clones-clause-extended g c =
     let it = c.into_iter-pair-iterator.result in
     record {
       capacity = grind (arith, common_steps);
+      distinct = rw c.in_err-put_clones.ensures.err (joins_of_puts g.K.PartialEq.eq g.met.K.Eq.laws c.args.self.now.entries c.loop-pair.invariant.puts.0 _ c.loop-pair.invariant.puts.2).distinct;
       capacity_stays = λ room. let all = room it (search rules) in grind (arith, common_steps);
       err = rw failed.1 (inr (it, c.loop-pair.yielded, c.in-Some.pair, c.next.new.self, search rules, search rules, search rules));
       late_err = λ some room. rw failed.1 (it, c.loop-pair.yielded, c.in-Some.pair, c.next.new.self, search rules, search rules, search rules);
@@ -31,8 +32,7 @@ returns-in_err-put_clones-clause-succeeds g c = λ room clones.
     let all = room c.into_iter-pair-iterator.result (search rules) in
     absurd (true≢false (sym (c.in_err-put_clones.ensures.succeeds (grind (arith, common_steps)) can.0 can.1)))
 
-pub returns-clause-distinct : goal.returns-clause-distinct
-returns-clause-distinct g c = (joins_of_puts g.K.PartialEq.eq g.met.K.Eq.laws c.args.self.now.entries c.loop-pair.invariant.puts.0 _ c.loop-pair.invariant.puts.2).distinct
-
-pub returns-in_err-put_clones-clause-distinct : goal.returns-in_err-put_clones-clause-distinct
-returns-in_err-put_clones-clause-distinct g c = rw c.in_err-put_clones.ensures.err (joins_of_puts g.K.PartialEq.eq g.met.K.Eq.laws c.args.self.now.entries c.loop-pair.invariant.puts.0 _ c.loop-pair.invariant.puts.2).distinct
+pub returns-clause-extended : goal.returns-clause-extended
+returns-clause-extended g c =
+    let distinct = (joins_of_puts g.K.PartialEq.eq g.met.K.Eq.laws c.args.self.now.entries c.loop-pair.invariant.puts.0 _ c.loop-pair.invariant.puts.2).distinct in
+    search (rules, distinct)

@@ -1,8 +1,7 @@
 use Rattle.std.proofs.{Common.{◌+◌, ◌∷◌, [], ◌++◌, ap, arith, sym, subst, take, ◌∙◌, ◌≡◌}, lemmas.List.{take_all, take_more}}
-use Rattle.std.proofs.{lemmas.Map.Entries.entries_from_clone, lemmas.Slice.Zip.AllZip-long}
-use Rattle.vecmap_base.specs.{Clones.AreClones, Clones.IsPairClone, Pairs.put, Pairs.puts}
-use Rattle.vecmap_base.proofs.{CloneLemmas.{TakesClones, clone_taken}, PairsLemmas.Puts.length_puts_at_most}
-use Rattle.vecmap_map.proofs.MadeLemmas.{distinct_of_puts, found_in_puts}
+use Rattle.vecmap_base.specs.{Clones.AreClones, Clones.IsPairClone, Pairs.put}
+use Rattle.vecmap_base.proofs.{CloneLemmas.{TakesClones, clone_taken}}
+use Rattle.vecmap_map.proofs.MadeLemmas.{makes_clones}
 use Rattle.vecmap_map.proofs.VecMap.from_slice.Goals as goal
 
 pub loop-pair-preserved : goal.loop-pair-preserved
@@ -19,21 +18,9 @@ loop-pair-preserved g c =
       room = omega (arith, c.put_clones.ensures.capacity.capacity, c.loop-pair.invariant.room);
     }
 
-pub returns-clause-distinct : goal.returns-clause-distinct
-returns-clause-distinct g c = distinct_of_puts g.K.PartialEq.eq g.met.K.Eq.laws c.loop-pair.invariant.puts.0 _ c.loop-pair.invariant.puts.2
-
-pub returns-clause-lookups : goal.returns-clause-lookups
-returns-clause-lookups g c = λ keys values d.
+pub returns-clause-made : goal.returns-clause-made
+returns-clause-made g c =
     let clones = c.loop-pair.invariant.puts in
     let is_clone = IsPairClone g.K.Clone.is_clone g.V.Clone.is_clone in
     let whole = take_all c.loop-pair.pair-index c.args.pairs.now c.loop-pair-test.false in
-    let same = entries_from_clone g.K.Clone.is_clone g.V.Clone.is_clone keys values c.args.pairs.now clones.0 (subst (λ l. AreClones is_clone l clones.0) whole clones.1) in
-    found_in_puts g.K.PartialEq.eq g.met.K.Eq.laws _ _ (clones.2 ∙ ap (puts g.K.PartialEq.eq []) same) d
-
-pub returns-clause-len : goal.returns-clause-len
-returns-clause-len g c =
-    let clones = c.loop-pair.invariant.puts in
-    let is_clone = IsPairClone g.K.Clone.is_clone g.V.Clone.is_clone in
-    let whole = take_all c.loop-pair.pair-index c.args.pairs.now c.loop-pair-test.false in
-    let long = AllZip-long is_clone c.args.pairs.now clones.0 (subst (λ l. AreClones is_clone l clones.0) whole clones.1) in
-    rw clones.2 (omega (arith, length_puts_at_most g.K.PartialEq.eq [] clones.0, long))
+    makes_clones g.K.PartialEq.eq g.met.K.Eq.laws g.K.Clone.is_clone g.V.Clone.is_clone c.args.pairs.now _ clones.0 (subst (λ l. AreClones is_clone l clones.0) whole clones.1) clones.2

@@ -1,5 +1,5 @@
 use Rattle.vecmap_base.proofs.ItemsLemmas.Sorted.{search_at, search_finds_equal}
-use Rattle.vecmap_set.proofs.IndexLemmas.{index_searched}
+use Rattle.vecmap_set.proofs.IndexLemmas.{finds_searched}
 use Rattle.vecmap_set.proofs.VecSet.binary_search.Goals as goal
 
 pub returns-clause-index : goal.returns-clause-index
@@ -15,8 +15,5 @@ returns-clause-found g c =
 pub returns-clause-at : goal.returns-clause-at
 returns-clause-at g c =
     let within = c.search_by_index.ensures.within in
-    search_at (λ x. x) g.T.Ord.cmp g.met.T.Ord.total g.T.PartialEq.eq g.met.T.Ord.matches_eq c.args.item.now c.args.self.now.elements c.search_by_index.result (rw (← c.self.view_is, ← c.as_slice-items.ensures.value) within) (returns-clause-index g c)
-
-pub returns-clause-indexed : goal.returns-clause-indexed
-returns-clause-indexed g c =
-    index_searched g.T.PartialEq.eq g.met.T.Eq.laws c.args.self.now.elements (rw (← c.self.view_is) c.self.invariant) c.args.item.now c.search_by_index.result (returns-clause-at g c)
+    finds_searched g.T.PartialEq.eq g.met.T.Eq.laws c.args.self.now.elements (rw (← c.self.view_is) c.self.invariant) c.args.item.now c.search_by_index.result
+    (search_at (λ x. x) g.T.Ord.cmp g.met.T.Ord.total g.T.PartialEq.eq g.met.T.Ord.matches_eq c.args.item.now c.args.self.now.elements c.search_by_index.result (rw (← c.self.view_is, ← c.as_slice-items.ensures.value) within) (returns-clause-index g c))

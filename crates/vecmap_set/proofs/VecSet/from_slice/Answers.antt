@@ -1,7 +1,7 @@
 use Rattle.std.proofs.{Common.{◌+◌, ◌∷◌, [], ◌++◌, ap, arith, sym, subst, take, ◌∙◌, ◌≡◌}, lemmas.List.take_more, lemmas.Grind.common_steps}
 use Rattle.vecmap_base.specs.{Items.add, Clones.AreClones}
 use Rattle.vecmap_base.proofs.CloneLemmas.{TakesClones, clone_taken}
-use Rattle.vecmap_set.proofs.MemberLemmas.{length_of_all, length_of_clones, members_of_clones}
+use Rattle.vecmap_set.proofs.MemberLemmas.{adds_clones}
 use Rattle.vecmap_set.proofs.VecSet.from_slice.Goals as goal
 
 pub loop-item-preserved : goal.loop-item-preserved
@@ -17,17 +17,9 @@ loop-item-preserved g c =
       distinct = c.insert.ensures.distinct;
     }
 
-pub returns-clause-members : goal.returns-clause-members
-returns-clause-members g c same =
+pub returns : goal.returns
+returns g c =
     let items = c.args.items.now in
     let made = c.loop-item.invariant.elements in
     let whole : take c.loop-item.item-index items ≡ items = grind (arith, common_steps) in
-    members_of_clones g.T.PartialEq.eq g.met.T.Eq.laws g.T.Clone.is_clone items made.0 _ same (subst (λ l. AreClones g.T.Clone.is_clone l made.0) whole made.1) made.2
-
-pub returns-clause-len : goal.returns-clause-len
-returns-clause-len g c =
-    let items = c.args.items.now in
-    let made = c.loop-item.invariant.elements in
-    let whole : take c.loop-item.item-index items ≡ items = grind (arith, common_steps) in
-    let clones = subst (λ l. AreClones g.T.Clone.is_clone l made.0) whole made.1 in
-    omega (arith, length_of_all g.T.PartialEq.eq made.0 _ made.2, length_of_clones g.T.Clone.is_clone items made.0 clones)
+    record { insertion = adds_clones g.T.PartialEq.eq g.met.T.Eq.laws g.T.Clone.is_clone items made.0 _ (subst (λ l. AreClones g.T.Clone.is_clone l made.0) whole made.1) made.2 }

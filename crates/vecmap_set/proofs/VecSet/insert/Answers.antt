@@ -1,4 +1,4 @@
-use Rattle.std.proofs.Common.{arith, rules}
+use Rattle.std.proofs.Common.{arith}
 use Rattle.vecmap_base.proofs.ItemsLemmas.Additions.{add_present}
 use Rattle.vecmap_set.proofs.InsertionLemmas.{adds_item}
 use Rattle.vecmap_set.proofs.VecSet.insert.Goals as goal

@@ -1,7 +1,6 @@
 use Rattle.std.specs.List.Sorted.{IsPermutation}
 use Rattle.std.proofs.Common.{rules, subst}
-use Rattle.vecmap_base.proofs.DistinctLemmas.Order.{distinct_rearranged}
-use Rattle.vecmap_set.proofs.ReorderLemmas.{moves_item}
+use Rattle.vecmap_set.proofs.ReorderLemmas.{distinct_rearranged, moves_item}
 use Rattle.vecmap_set.proofs.VecSet.move_index.Goals as goal
 
 pub invariant_of-self : goal.invariant_of-self

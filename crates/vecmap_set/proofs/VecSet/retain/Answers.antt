@@ -1,6 +1,6 @@
-use Rattle.std.proofs.Common.{rules}
 use Rattle.vecmap_base.specs.Asked.{CallsAtItem}
-use Rattle.vecmap_base.proofs.{DistinctLemmas.Removals.distinct_kept, PairsLemmas.Retained.length_kept}
+use Rattle.vecmap_base.proofs.DistinctLemmas.Removals.{distinct_kept}
+use Rattle.vecmap_set.proofs.RemovalLemmas.{retains_items}
 use Rattle.vecmap_set.proofs.VecSet.retain.Goals as goal
 
 pub invariant_of-self : goal.invariant_of-self
@@ -11,10 +11,5 @@ invariant_of-self g c =
 pub returns-clause-distinct : goal.returns-clause-distinct
 returns-clause-distinct g c = invariant_of-self g c
 
-pub returns-clause-matches : goal.returns-clause-matches
-returns-clause-matches g c query kept told = let matches = c.retain_items.ensures.matches query kept told in search (rules, matches)
-
-pub returns-clause-len : goal.returns-clause-len
-returns-clause-len g c =
-    let kept = c.retain_items.ensures.retained in
-    rw (← c.self.view_is) (length_kept (CallsAtItem g.F.FnMut) c.args.f kept.0 _ _ kept.1)
+pub returns-clause-retained : goal.returns-clause-retained
+returns-clause-retained g c = rw (← c.self.view_is) (retains_items (CallsAtItem g.F.FnMut) (λ f x b y h call. call.1) c.args.f _ _ c.retain_items.ensures.retained)

@@ -1,6 +1,5 @@
 use Rattle.std.proofs.Common.{rules}
-use Rattle.vecmap_base.proofs.DistinctLemmas.Order.{distinct_reverse}
-use Rattle.vecmap_set.proofs.ReorderLemmas.{reverses_items}
+use Rattle.vecmap_set.proofs.ReorderLemmas.{distinct_reverse, reverses_items}
 use Rattle.vecmap_set.proofs.VecSet.reverse.Goals as goal
 
 pub returns-clause-reordered : goal.returns-clause-reordered

@@ -1,5 +1,4 @@
-use Rattle.vecmap_base.proofs.DistinctLemmas.Order.{distinct_rearranged}
-use Rattle.vecmap_set.proofs.ReorderLemmas.{items_reordered}
+use Rattle.vecmap_set.proofs.ReorderLemmas.{distinct_rearranged, items_reordered}
 use Rattle.vecmap_set.proofs.VecSet.sort_unstable.Goals as goal
 
 pub invariant_of-self : goal.invariant_of-self

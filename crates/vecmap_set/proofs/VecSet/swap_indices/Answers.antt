@@ -1,6 +1,5 @@
 use Rattle.std.proofs.Common.{ap, arith, length, rules}
-use Rattle.vecmap_base.proofs.DistinctLemmas.Order.{distinct_swap}
-use Rattle.vecmap_set.proofs.ReorderLemmas.{swaps_items}
+use Rattle.vecmap_set.proofs.ReorderLemmas.{distinct_swap, swaps_items}
 use Rattle.vecmap_set.proofs.VecSet.swap_indices.Goals as goal
 
 pub invariant_of-self : goal.invariant_of-self

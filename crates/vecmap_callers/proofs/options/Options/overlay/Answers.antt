@@ -10,6 +10,6 @@ returns-clause-settings g c = λ q.
     let eq = g.K.PartialEq.eq in
     let mine = c.self.inside in
     let theirs = c.upper.inside in
-    ap (λ l. option_or (lookup eq l q) (lookup eq mine.defaults.entries q)) c.in_ok-append.ensures.entries
+    ap (λ l. option_or (lookup eq l q) (lookup eq mine.defaults.entries q)) c.in_ok-append.ensures.joins.entries
     ∙ laid_over eq g.met.K.Eq.laws mine.defaults.entries mine.overrides.entries theirs.overrides.entries c.upper.invariant q
     ∙ (λ t. option_or (lookup eq (c.upper.view_is t).overrides q) (setting eq (c.self.view_is t) q))

@@ -3,8 +3,5 @@ use Rattle.vecmap_base.specs.Asked.{CallsAtPairMut}
 use Rattle.vecmap_base.proofs.PairsLemmas.Retained.{retains}
 use Rattle.vecmap_map.proofs.mutable_keys.VecMapMutableKeys.retain2.Goals as goal
 
-pub returns-clause-retained : goal.returns-clause-retained
-returns-clause-retained g c = search rules
-
 pub returns-clause-left : goal.returns-clause-left
-returns-clause-left g c = retains (CallsAtPairMut g.F.FnMut) c.args.f c.args.self.now.entries _ (returns-clause-retained g c)
+returns-clause-left g c = retains (CallsAtPairMut g.F.FnMut) c.args.f c.args.self.now.entries _ (search rules)

@@ -1,7 +1,6 @@
 use Rattle.std.proofs.Common.{◌||◌, ap, refl}
-use Rattle.vecmap_base.proofs.EqualityLemmas.Relations.{distinct_union}
 use Rattle.vecmap_set.specs.{Lazy.{JoinsFirst, union_rest}, Operators.union_of}
-use Rattle.vecmap_set.proofs.OperatorLemmas.{fits_union, is_member_union, operator_clones, with_members}
+use Rattle.vecmap_set.proofs.OperatorLemmas.{distinct_union, fits_union, is_member_union, operator_clones, with_members}
 use Rattle.vecmap_set.proofs.operators.RefVecSetBitOr.bitor.Goals as goal
 
 pub returns : goal.returns

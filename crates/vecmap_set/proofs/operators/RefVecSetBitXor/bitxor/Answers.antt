@@ -1,7 +1,6 @@
 use Rattle.std.proofs.Common.{◌&&◌, ◌||◌, ap, not, refl}
-use Rattle.vecmap_base.proofs.EqualityLemmas.Relations.{distinct_symmetric_difference}
 use Rattle.vecmap_set.specs.{Lazy.{ExcludesFirst, symmetric_rest}, Operators.symmetric_difference_of}
-use Rattle.vecmap_set.proofs.OperatorLemmas.{fits_symmetric_difference, is_member_symmetric_difference, operator_clones, with_members}
+use Rattle.vecmap_set.proofs.OperatorLemmas.{distinct_symmetric_difference, fits_symmetric_difference, is_member_symmetric_difference, operator_clones, with_members}
 use Rattle.vecmap_set.proofs.operators.RefVecSetBitXor.bitxor.Goals as goal
 
 pub returns : goal.returns

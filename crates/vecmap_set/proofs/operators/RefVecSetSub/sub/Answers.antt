@@ -1,8 +1,7 @@
 use Rattle.std.proofs.Common.{◌&&◌, ap, not, refl}
-use Rattle.vecmap_base.proofs.EqualityLemmas.Relations.{distinct_only, is_member_only}
 use Rattle.vecmap_set.specs.Lazy.{FiltersFirst, filtered_rest, lacks_item}
 use Rattle.vecmap_base.specs.Items.{only}
-use Rattle.vecmap_set.proofs.OperatorLemmas.{fits_only, operator_clones, with_members}
+use Rattle.vecmap_set.proofs.OperatorLemmas.{distinct_only, fits_only, is_member_only, operator_clones, with_members}
 use Rattle.vecmap_set.proofs.operators.RefVecSetSub.sub.Goals as goal
 
 pub returns : goal.returns
