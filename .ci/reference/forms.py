@@ -40,7 +40,7 @@ def aliases(item, contract):
     found = {word for told, calls, *_ in which if f"`{item.name}`" in calls for word in re.findall(r"[a-z]{5,}", told)}
     found |= {*ALSO.get(f"{owner_of(item)}::{item.name}", "").split()}
     for label in re.findall(r"^ *requires (?:(\w+) )?\{", contract, re.MULTILINE):
-        found |= {f"{item.name}-requires", f"{item.name}-requires" + f"-clause-{label}" * bool(label)}
+        found |= {"precondition", f"{item.name}-requires", f"{item.name}-requires" + f"-clause-{label}" * bool(label)}
     return "".join(f'#[doc(alias = "{it}")] ' for it in sorted(found - {item.name}))
 
 

@@ -48,7 +48,7 @@ def own_pages():
         "mutants": f"Wrong bodies, and what rejects them.\n\n{run('.ci/edits list').stdout}",
         "questions": f"What a caller asks after a call, and what is proved.\n\n{run('.ci/questions list').stdout}",
     }
-    guides = files("crates/vecmap/*.md", "docs/[DP]*.md")
+    guides = files("crates/vecmap/*.md", "docs/[DP]*.md", "CHANGELOG.md")
     pages |= {os.path.basename(it)[:-3].lower(): read(it).removeprefix("# ") for it in guides}
     plain = lambda text: re.sub(r"\[([^\]]*)\]\([^)]*\)", r"\1", text).replace("```rust", "```text")
     return " ".join(f"{doc(plain(text))}#[allow(rustdoc::all)] pub mod {name} {{}}" for name, text in pages.items())

@@ -1,5 +1,5 @@
 -- What lookups find after a change of a list of pairs. `eq` is the `==` of keys.
-use Rattle.std.specs.Prelude.{◌≡◌, ◌++◌, [], ◌+◌, ◌<◌, ◌≤◌, ℕ, Bool, IsSome, IsTrue, List, None, Option, Some, cond, false, is_some, length, min, position, slice_get, slice_set, take, true}
+use Rattle.std.specs.Prelude.{◌≡◌, [], ◌+◌, ◌<◌, ◌≤◌, ℕ, Bool, IsSome, IsTrue, List, None, Option, Some, cond, false, is_some, length, min, position, slice_get, slice_set, take, true}
 use Rattle.std.specs.{List.list_any, List.Sorted.IsPermutation, Option.option_or, Cmp.IsEquivalence}
 use Rattle.std.specs.Set.{is_member, KeepsOthers as KeepsOtherItems}
 use Rattle.std.specs.Map.{IsKeyTest, KeepsOthers, keys_of, set_value, values_of}
@@ -63,9 +63,6 @@ module _ {K V : Type 0} where
   -- The list `m` is the list `l` after insertions of `pairs`. If the keys of `pairs` are distinct, each key has its value in
   -- `pairs`, or else its value in `l`.
   pub record Joins (eq : K → K → Bool) (l pairs m : List (K × V)) : Type 0 where
-    pub entries : m ≡ puts eq l pairs
-    -- If all keys of both are distinct, `pairs` is appended. `whole` is what a split has divided.
-    pub joined : (whole : List (K × V)) → l ++ pairs ≡ whole → HasDistinctKeys eq whole → m ≡ whole
     pub lookups : HasDistinctKeys eq pairs → (q : K) → lookup eq m q ≡ option_or (lookup eq pairs q) (lookup eq l q)
     pub distinct : HasDistinctKeys eq l → HasDistinctKeys eq m
     pub indices : (test : K → Bool) (i : ℕ) → index_by test l ≡ Some i → index_by test m ≡ Some i

@@ -1,5 +1,5 @@
 //! Creation of a map from many pairs, and insertion of many pairs.
-ghost use Rattle.std.specs.Prelude.{◌≡◌, ◌<◌, ◌+◌, ◌≤◌, ◌/◌, IfOk, IsOk, List, None, OnErr, OnOk, [], if◌then◌else◌, length};
+ghost use Rattle.std.specs.Prelude.{◌≡◌, ◌++◌, ◌<◌, ◌+◌, ◌≤◌, ◌/◌, IfOk, IsOk, List, None, OnErr, OnOk, [], if◌then◌else◌, length};
 ghost use Rattle.std.specs.{Iterator.{Drains, ExtendsWithItems, IsFiniteIterable}, Map.Iter.{deref, deref_pair}};
 ghost use Rattle.vecmap_base.specs.{Bulk.{HasRoomForAll, HoldsOfEach, YieldsAll}, Clones.ClonesSucceed};
 ghost use Rattle.vecmap_base.specs.{Lookups.{Joins, MakesPairs}, Pairs.{HasDistinctKeys, put, puts}};
@@ -121,7 +121,8 @@ impl<K, V> VecMap<K, V> {
     where
         K: Eq + Drop,
         V: Drop,
-        ensures joins { OnOk result (Joins K.eq self.old.entries other.old.entries self.new.entries) }
+        ensures entries { OnOk result (self.new.entries
+            ≡ puts K.eq self.old.entries other.old.entries) }
         ensures emptied { OnOk result (other.new ≡ with_entries other.old []) }
         ensures capacity { self.old.capacity ≤ self.new.capacity }
         ensures succeeds { HasRoom self.old (length other.old.entries) → IsOk result }
@@ -130,6 +131,12 @@ impl<K, V> VecMap<K, V> {
         ensures not_empty { OnErr result (0 < length other.old.entries) }
         ensures err { OnErr result (self.new ≡ self.old) }
         ensures other_err { OnErr result (other.new ≡ other.old) }
+
+        // What follows for lookups, lengths and indices. `whole` is what a split has divided.
+        ensures joins { OnOk result (Joins K.eq self.old.entries other.old.entries self.new.entries) }
+        ensures joined { OnOk result ((whole : List (K × V))
+            → self.old.entries ++ other.old.entries ≡ whole → HasDistinctKeys K.eq whole
+            → self.new.entries ≡ whole) }
     {
         self.reserve(other.len())?;
         for (key, value) in other.pairs.drain(..) {
