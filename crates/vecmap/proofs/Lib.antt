@@ -1,3 +1,1 @@
-mod MapRunExamples
 pub mod RunLemmas
-mod SetRunExamples

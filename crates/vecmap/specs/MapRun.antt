@@ -1,5 +1,5 @@
--- What the commands of `run` do to a map, in order. `proofs/MapRunExamples.antt` has an example of each line of `ListStep` and
--- of `CapacityStep`.
+-- What the commands of `run` do to a map, in order. In `vecmap_tests`, `MapRunExamples.antt` has an example of each line of
+-- `ListStep` and of `CapacityStep`.
 use Rattle.std.specs.Prelude.{◌≡◌, ◌-◌, ◌<◌, ◌≤◌, ◌++◌, None, Bool, IsSomeAnd, List, Option, [], ◌∷◌, drop, is_some, length, not, remove, reverse, slice_get, swap, take, ⊤}
 use Rattle.std.specs.Option.{option_map_or}
 use Rattle.std.specs.declared.clone.Clone as clone

@@ -1,5 +1,5 @@
--- What the commands of `run_set` do to a set, in order. `proofs/SetRunExamples.antt` has an example of each line of `ListStep`
--- and of `CapacityStep`.
+-- What the commands of `run_set` do to a set, in order. In `vecmap_tests`, `SetRunExamples.antt` has an example of each line of
+-- `ListStep` and of `CapacityStep`.
 use Rattle.std.specs.Prelude.{◌≡◌, ◌-◌, ◌<◌, ◌≤◌, ◌↔◌, Bool, Err, IsSomeAnd, IsTrue, List, Ok, Option, Result, [], ◌∷◌, drop, false, length, not, remove, reverse, slice_get, swap, take, ⊤}
 use Rattle.std.specs.{List.IsDistinct, Set.is_member}
 use Rattle.std.specs.declared.clone.Clone as clone

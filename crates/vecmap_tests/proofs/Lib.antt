@@ -1,0 +1,2 @@
+mod MapRunExamples
+mod SetRunExamples

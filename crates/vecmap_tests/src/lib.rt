@@ -1,6 +1,6 @@
 //! Tests of what no test case of `vecmap_script` can show, since the keys, values and elements there have one type: it has
 //! more than 16 bytes, prints, and cannot be copied. The head of each file says what its tests have instead. And callers,
-//! in which the mutants in `must-fail` make bugs.
+//! in which the mutants in `must-fail` make bugs, and lemmas on each line of `ListStep`.
 #![tactic(auto)]
 
 #[cfg(test)]

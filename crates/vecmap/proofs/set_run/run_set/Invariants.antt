@@ -1,5 +1,4 @@
-use Rattle.std.proofs.Common.{◌≡◌, ◌+◌, ◌≤◌, ◌++◌}
-use Rattle.std.specs.{Vec.vec_len, Vec.vec_capacity, Vec.Iter.into_iter_items, Vec.Iter.into_iter_len}
+use Rattle.std.{proofs.Common.{◌≡◌, ◌+◌, ◌≤◌, ◌++◌}, specs.Vec.{vec_len, vec_capacity, Iter.{into_iter_items, into_iter_len}}}
 use Rattle.vecmap.specs.SetRun.{Run}
 use Rattle.vecmap.proofs.set_run.run_set.Given as goal
 
