@@ -6,7 +6,7 @@
 //! `find_by`, `find_item_by` and `contains_by` compare by a [`Compare`], which counts. No type of theirs has a bound, so
 //! they can compare in no other way. The other searches call them with a [`Counter`] that nobody reads: the functions
 //! `.._with` open it, since its ledger is chosen by the proof of their caller. Counters have no size and no code, so begin
-//! to read at `find_by`.
+//! to read at `find_by`. Each makes at most as many comparisons as the slice has items, and does not allocate.
 ghost use Rattle.std.specs.{Prelude.{◌≡◌, ◌+◌, ◌<◌, ◌≤◌, IfSome, IsTrue, None, false, length, position}, List.list_any, Map.keys_of};
 ghost use Rattle.std.specs.{Option.option_map_or, Set.is_member};
 ghost use Rattle.vecmap_base.specs.{Items.item_index, Pairs.{has_text, index_by, index_of}, Comparisons.search_cost_by};
@@ -33,10 +33,6 @@ pub(crate) const MIN_LENGTH_FOR_CALL: usize = 8;
 
 /// Returns the index of the first pair whose key is equal to `key`.
 ///
-/// # Complexity
-///
-/// At most `pairs.len()` comparisons.
-///
 /// # Examples
 ///
 /// ```
@@ -51,10 +47,6 @@ pub fn find<K: Eq, V>(pairs: &[(K, V)], key: &K) -> Option<usize>
 
 /// Returns the index of the first item that is equal to `item`.
 ///
-/// # Complexity
-///
-/// At most `items.len()` comparisons.
-///
 /// # Examples
 ///
 /// ```
@@ -68,10 +60,6 @@ pub fn find_item<T: Eq>(items: &[T], item: &T) -> Option<usize>
 }
 
 /// Returns the index of the first pair whose key has the bytes of `text`.
-///
-/// # Complexity
-///
-/// At most `pairs.len()` comparisons. Does not allocate.
 ///
 /// # Examples
 ///
@@ -88,10 +76,6 @@ pub fn find_str<V>(pairs: &[(String, V)], text: &str) -> Option<usize>
 
 /// Returns the index of the first item that has the bytes of `text`.
 ///
-/// # Complexity
-///
-/// At most `items.len()` comparisons. Does not allocate.
-///
 /// # Examples
 ///
 /// ```
@@ -106,10 +90,6 @@ pub fn find_item_str(items: &[String], text: &str) -> Option<usize>
 }
 
 /// Returns `true` if one of `items` is equal to `item`.
-///
-/// # Complexity
-///
-/// At most `items.len()` comparisons.
 ///
 /// # Examples
 ///
@@ -126,10 +106,6 @@ pub fn contains_item<T: Eq>(items: &[T], item: &T) -> bool
 }
 
 /// Like [`contains_item`], but the loop over few items is inlined.
-///
-/// # Complexity
-///
-/// At most `items.len()` comparisons.
 ///
 /// # Examples
 ///
@@ -179,10 +155,6 @@ pub(crate) fn are_small<T>(items: &[T], least: usize) -> bool
 }
 
 /// Returns the index of the first pair whose key matches `query`.
-///
-/// # Complexity
-///
-/// As many comparisons as [`find_by`] makes: at most `pairs.len()`.
 ///
 /// # Examples
 ///

@@ -99,10 +99,6 @@ impl<K, V> VecMap<K, V> {
     ///
     /// All keys are distinct: `keys_distinct` returns `true`.
     ///
-    /// # Complexity
-    ///
-    /// No comparisons. Does not allocate.
-    ///
     /// # Examples
     ///
     /// ```

@@ -83,10 +83,6 @@ impl<K, V> IndexMut<usize> for VecMap<K, V> {
 ///
 /// Such a pair is present: [`VecMap::contains_key`] returns `true`.
 ///
-/// # Complexity
-///
-/// At most `len` comparisons.
-///
 /// # Examples
 ///
 /// ```
@@ -112,10 +108,6 @@ impl<'q, K: Eq, V> Index<&'q K> for VecMap<K, V> {
 /// # Preconditions
 ///
 /// Such a pair is present: [`VecMap::contains_key`] returns `true`.
-///
-/// # Complexity
-///
-/// At most `len` comparisons.
 ///
 /// # Examples
 ///
@@ -148,10 +140,6 @@ impl<'q, K: Eq, V> IndexMut<&'q K> for VecMap<K, V> {
 ///
 /// Such a pair is present: [`VecMap::contains_key`] returns `true`.
 ///
-/// # Complexity
-///
-/// At most `len` comparisons. Does not allocate.
-///
 /// # Examples
 ///
 /// ```
@@ -178,10 +166,6 @@ impl<'q, V> Index<&'q str> for VecMap<String, V> {
 /// # Preconditions
 ///
 /// Such a pair is present: [`VecMap::contains_key`] returns `true`.
-///
-/// # Complexity
-///
-/// At most `len` comparisons. Does not allocate.
 ///
 /// # Examples
 ///
@@ -214,10 +198,6 @@ impl<'q, V> IndexMut<&'q str> for VecMap<String, V> {
 /// # Preconditions
 ///
 /// Such a pair is present: [`VecMap::contains_key`] returns `true`.
-///
-/// # Complexity
-///
-/// At most `len` comparisons.
 ///
 /// # Examples
 ///

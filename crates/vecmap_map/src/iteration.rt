@@ -14,10 +14,6 @@ use vecmap_base::{IntoIter, IntoKeys, IntoValues, Iter, IterMut, Keys, Values, V
 impl<K, V> VecMap<K, V> {
     /// Returns an iterator over the pairs in order, each as `(&K, &V)`.
     ///
-    /// # Complexity
-    ///
-    /// Constant time. Does not allocate.
-    ///
     /// # Examples
     ///
     /// ```
@@ -38,10 +34,6 @@ impl<K, V> VecMap<K, V> {
     /// Each value comes as it was at this call. Once the iterator is no longer used, the map has its old length and
     /// capacity. No contract says which values were written. If a proof needs that, use [`VecMap::update_values`].
     ///
-    /// # Complexity
-    ///
-    /// Constant time. Does not allocate.
-    ///
     /// # Examples
     ///
     /// ```
@@ -60,10 +52,6 @@ impl<K, V> VecMap<K, V> {
 
     /// Returns an iterator over the keys, in order.
     ///
-    /// # Complexity
-    ///
-    /// Constant time. Does not allocate.
-    ///
     /// # Examples
     ///
     /// ```
@@ -77,10 +65,6 @@ impl<K, V> VecMap<K, V> {
     }
 
     /// Returns an iterator over the values, in the order of their keys.
-    ///
-    /// # Complexity
-    ///
-    /// Constant time. Does not allocate.
     ///
     /// # Examples
     ///
@@ -98,10 +82,6 @@ impl<K, V> VecMap<K, V> {
     ///
     /// Each value comes as it was at this call. Once the iterator is no longer used, the map has its old length and
     /// capacity. No contract says which values were written. If a proof needs that, use [`VecMap::update_values`].
-    ///
-    /// # Complexity
-    ///
-    /// Constant time. Does not allocate.
     ///
     /// # Examples
     ///
@@ -121,10 +101,6 @@ impl<K, V> VecMap<K, V> {
 
     /// Converts the map into an iterator over its keys, in order. Each value is dropped when its key is returned.
     ///
-    /// # Complexity
-    ///
-    /// Constant time. Does not allocate.
-    ///
     /// # Examples
     ///
     /// ```
@@ -140,10 +116,6 @@ impl<K, V> VecMap<K, V> {
     /// Converts the map into an iterator over its values, in the order of their keys.
     ///
     /// Each key is dropped when its value is returned.
-    ///
-    /// # Complexity
-    ///
-    /// Constant time. Does not allocate.
     ///
     /// # Examples
     ///

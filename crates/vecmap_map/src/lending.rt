@@ -14,10 +14,6 @@ impl<K, V> VecMap<K, V> {
     /// Returns a mutable reference to the value of the first pair whose key matches `query`, or `None` if no key
     /// matches.
     ///
-    /// # Complexity
-    ///
-    /// At most `len` comparisons.
-    ///
     /// # Examples
     ///
     /// ```
@@ -55,10 +51,6 @@ impl<K, V> VecMap<K, V> {
     /// If it returns `None`, the map is unchanged. A caller without a proof file knows which pair the reference points to,
     /// but not what the map holds afterwards. [`VecMap::first_value_mut`] and, below a test of the length, [`VecMap::pair_mut`] say both.
     ///
-    /// # Complexity
-    ///
-    /// No comparisons.
-    ///
     /// # Examples
     ///
     /// ```
@@ -80,10 +72,6 @@ impl<K, V> VecMap<K, V> {
     ///
     /// If it returns `None`, the map is unchanged. A caller without a proof file knows which pair the reference points to,
     /// but not what the map holds afterwards. [`VecMap::last_value_mut`] and, below a test of the length, [`VecMap::pair_mut`] say both.
-    ///
-    /// # Complexity
-    ///
-    /// No comparisons.
     ///
     /// # Examples
     ///
@@ -110,10 +98,6 @@ impl<K, V> VecMap<K, V> {
     ///
     /// If it returns `None`, the map is unchanged. A caller without a proof file knows which pair the reference points to,
     /// but not what the map holds afterwards. [`VecMap::get_mut`] and, with the index of the key, [`VecMap::pair_mut`] say both.
-    ///
-    /// # Complexity
-    ///
-    /// At most `len` comparisons.
     ///
     /// # Examples
     ///
@@ -147,10 +131,6 @@ impl<K, V> VecMap<K, V> {
     /// If it returns `None`, the map is unchanged. A caller without a proof file knows which pair the reference points to,
     /// but not what the map holds afterwards. [`VecMap::get_value_at_mut`] and, below a test of the index, [`VecMap::pair_mut`] say both.
     ///
-    /// # Complexity
-    ///
-    /// No comparisons.
-    ///
     /// # Examples
     ///
     /// ```
@@ -174,10 +154,6 @@ impl<K, V> VecMap<K, V> {
     /// Returns a mutable reference to the value at `index`, or `None` if `index` is out of range.
     ///
     /// Unlike [`VecMap::get_index_mut`], it returns the value alone, so a proof knows what the map holds after a write.
-    ///
-    /// # Complexity
-    ///
-    /// No comparisons.
     ///
     /// # Examples
     ///
@@ -211,10 +187,6 @@ impl<K, V> VecMap<K, V> {
     ///
     /// `index` is less than [`VecMap::len`].
     ///
-    /// # Complexity
-    ///
-    /// No comparisons.
-    ///
     /// # Examples
     ///
     /// ```
@@ -240,10 +212,6 @@ impl<K, V> VecMap<K, V> {
     ///
     /// Unlike [`VecMap::first_mut`], it returns the value alone, so a proof knows what the map holds after a write.
     ///
-    /// # Complexity
-    ///
-    /// No comparisons.
-    ///
     /// # Examples
     ///
     /// ```
@@ -268,10 +236,6 @@ impl<K, V> VecMap<K, V> {
     /// Returns a mutable reference to the value of the last pair, or `None` if the map is empty.
     ///
     /// Unlike [`VecMap::last_mut`], it returns the value alone, so a proof knows what the map holds after a write.
-    ///
-    /// # Complexity
-    ///
-    /// No comparisons.
     ///
     /// # Examples
     ///

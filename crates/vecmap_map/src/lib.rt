@@ -40,6 +40,11 @@ use std::marker::Model;
 /// All keys are distinct, unless a caller makes duplicates: by writing a key, or by keys whose clones differ from them.
 /// A lookup then finds the first pair with an equal key.
 ///
+/// # Complexity
+///
+/// A call that takes a key or a query compares it with the keys in order, up to the first match: at most `len`
+/// comparisons. It compares no other keys, moves no pairs and does not allocate, unless its `# Complexity` says so.
+///
 /// # Examples
 ///
 /// ```rust

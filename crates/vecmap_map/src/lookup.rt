@@ -10,10 +10,6 @@ use vecmap_base::{Equivalent, find_equivalent, keys_distinct};
 impl<K, V> VecMap<K, V> {
     /// Returns `true` if a key of the map matches `query`.
     ///
-    /// # Complexity
-    ///
-    /// At most `len` comparisons.
-    ///
     /// # Examples
     ///
     /// ```
@@ -33,10 +29,6 @@ impl<K, V> VecMap<K, V> {
 
     /// Returns the first pair, or `None` if the map is empty.
     ///
-    /// # Complexity
-    ///
-    /// No comparisons.
-    ///
     /// # Examples
     ///
     /// ```
@@ -53,10 +45,6 @@ impl<K, V> VecMap<K, V> {
     }
 
     /// Returns the last pair, or `None` if the map is empty.
-    ///
-    /// # Complexity
-    ///
-    /// No comparisons.
     ///
     /// # Examples
     ///
@@ -81,10 +69,6 @@ impl<K, V> VecMap<K, V> {
 
     /// Returns the value of the first pair whose key matches `query`, or `None` if no key matches.
     ///
-    /// # Complexity
-    ///
-    /// At most `len` comparisons.
-    ///
     /// # Examples
     ///
     /// ```
@@ -108,10 +92,6 @@ impl<K, V> VecMap<K, V> {
 
     /// Returns the pair at `index`, or `None` if `index` is out of range.
     ///
-    /// # Complexity
-    ///
-    /// No comparisons.
-    ///
     /// # Examples
     ///
     /// ```
@@ -133,10 +113,6 @@ impl<K, V> VecMap<K, V> {
 
     /// Returns the index, the stored key and the value of the first pair whose key matches `query`, or `None` if no key
     /// matches.
-    ///
-    /// # Complexity
-    ///
-    /// At most `len` comparisons.
     ///
     /// # Examples
     ///
@@ -169,10 +145,6 @@ impl<K, V> VecMap<K, V> {
 
     /// Returns the first pair whose key matches `query`, with the stored key, or `None` if no key matches.
     ///
-    /// # Complexity
-    ///
-    /// At most `len` comparisons.
-    ///
     /// # Examples
     ///
     /// ```
@@ -195,10 +167,6 @@ impl<K, V> VecMap<K, V> {
     }
 
     /// Returns the index of the first pair whose key matches `query`, or `None` if no key matches.
-    ///
-    /// # Complexity
-    ///
-    /// At most `len` comparisons.
     ///
     /// # Examples
     ///

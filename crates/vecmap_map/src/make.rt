@@ -61,10 +61,6 @@ impl<K, V> VecMap<K, V> {
 
     /// Returns the pairs in order, as a slice.
     ///
-    /// # Complexity
-    ///
-    /// No moves. Does not allocate.
-    ///
     /// # Examples
     ///
     /// ```
@@ -78,10 +74,6 @@ impl<K, V> VecMap<K, V> {
     }
 
     /// Returns the pairs in order, in the vector that held them.
-    ///
-    /// # Complexity
-    ///
-    /// No moves. Does not allocate.
     ///
     /// # Examples
     ///

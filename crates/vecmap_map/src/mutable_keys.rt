@@ -35,10 +35,6 @@ pub trait MutableKeys: sealed::Sealed {
     /// Returns the index of the first pair whose key matches `query`, with mutable references to the stored key and the
     /// value, or `None` if no key matches; a write may create duplicate keys.
     ///
-    /// # Complexity
-    ///
-    /// At most `len` comparisons.
-    ///
     /// # Examples
     ///
     /// ```
@@ -57,10 +53,6 @@ pub trait MutableKeys: sealed::Sealed {
 
     /// Returns mutable references to the key and the value at `index`, or `None` if `index` is out of range; a write
     /// may create duplicate keys.
-    ///
-    /// # Complexity
-    ///
-    /// No comparisons.
     ///
     /// # Examples
     ///
@@ -110,10 +102,6 @@ pub trait MutableKeys: sealed::Sealed {
     /// Each pair comes as it was at this call. Once the iterator is no longer used, the map has its old length and
     /// capacity. No contract says what was written. If a proof needs that, write to [`MutableKeys::as_mut_slice`].
     ///
-    /// # Complexity
-    ///
-    /// Constant time for each item. Does not allocate.
-    ///
     /// # Examples
     ///
     /// ```
@@ -130,10 +118,6 @@ pub trait MutableKeys: sealed::Sealed {
     /// Each key comes as it was at this call. Once the iterator is no longer used, the map has its old length and
     /// capacity. No contract says what was written. If a proof needs that, write to [`MutableKeys::as_mut_slice`].
     ///
-    /// # Complexity
-    ///
-    /// Constant time for each item. Does not allocate.
-    ///
     /// # Examples
     ///
     /// ```
@@ -149,10 +133,6 @@ pub trait MutableKeys: sealed::Sealed {
     ///
     /// Once the slice is no longer used, the map has the pairs as they were written, and its old length and capacity.
     /// In a loop over `as_mut_slice().iter_mut()`, an invariant can say what was written so far.
-    ///
-    /// # Complexity
-    ///
-    /// Constant time. Does not allocate.
     ///
     /// # Examples
     ///

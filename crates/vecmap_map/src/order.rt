@@ -36,10 +36,6 @@ impl<K, V> VecMap<K, V> {
     ///
     /// `a` and `b` are less than [`VecMap::len`].
     ///
-    /// # Complexity
-    ///
-    /// No comparisons.
-    ///
     /// # Examples
     ///
     /// ```

@@ -11,10 +11,6 @@ use vecmap_base::{Equivalent, find_equivalent, remove_item, retain_pairs};
 impl<K, V> VecMap<K, V> {
     /// Drops all pairs. The capacity stays.
     ///
-    /// # Complexity
-    ///
-    /// No comparisons and no moves.
-    ///
     /// # Examples
     ///
     /// ```
@@ -39,10 +35,6 @@ impl<K, V> VecMap<K, V> {
     /// Keeps the first `len` pairs and drops the others.
     ///
     /// If the map has no more than `len` pairs, nothing changes. The capacity stays.
-    ///
-    /// # Complexity
-    ///
-    /// No comparisons and no moves.
     ///
     /// # Examples
     ///
@@ -139,10 +131,6 @@ impl<K, V> VecMap<K, V> {
     }
 
     /// Removes the last pair and returns it, or `None` if the map is empty.
-    ///
-    /// # Complexity
-    ///
-    /// No comparisons and no moves.
     ///
     /// # Examples
     ///

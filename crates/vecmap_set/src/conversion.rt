@@ -95,10 +95,6 @@ impl<T: Eq> VecSet<T> {
     ///
     /// All elements are distinct: `items_distinct` returns `true`.
     ///
-    /// # Complexity
-    ///
-    /// No comparisons. Does not allocate.
-    ///
     /// # Examples
     ///
     /// ```

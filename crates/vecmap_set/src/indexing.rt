@@ -10,10 +10,6 @@ use std::ops::Index;
 ///
 /// The index is less than [`VecSet::len`].
 ///
-/// # Complexity
-///
-/// No comparisons.
-///
 /// # Examples
 ///
 /// ```

@@ -12,10 +12,6 @@ use vecmap_base::items::{IntoIter, Iter};
 impl<T: Eq> VecSet<T> {
     /// Returns an iterator over the elements, in order. They are distinct.
     ///
-    /// # Complexity
-    ///
-    /// Constant time. Does not allocate.
-    ///
     /// # Examples
     ///
     /// ```

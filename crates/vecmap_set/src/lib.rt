@@ -37,6 +37,11 @@ use std::marker::Model;
 /// can itself be a key or an element, and `Send` and `Sync` if its elements are. It is neither `Hash` nor `Ord` nor
 /// `Default`.
 ///
+/// # Complexity
+///
+/// A call that takes an element or a query compares it with the elements in order, up to the first match: at most `len`
+/// comparisons. It compares no other elements, moves none and does not allocate, unless its `# Complexity` says so.
+///
 /// # Examples
 ///
 /// ```rust

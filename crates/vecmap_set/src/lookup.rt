@@ -12,10 +12,6 @@ use vecmap_base::{Equivalent, contains_equivalent, find_item_equivalent};
 impl<T: Eq> VecSet<T> {
     /// Returns `true` if an element matches `query`.
     ///
-    /// # Complexity
-    ///
-    /// At most `len` comparisons.
-    ///
     /// # Examples
     ///
     /// ```
@@ -30,10 +26,6 @@ impl<T: Eq> VecSet<T> {
     }
 
     /// Returns the first element, or `None` if the set is empty.
-    ///
-    /// # Complexity
-    ///
-    /// No comparisons.
     ///
     /// # Examples
     ///
@@ -55,10 +47,6 @@ impl<T: Eq> VecSet<T> {
 
     /// Returns the last element, or `None` if the set is empty.
     ///
-    /// # Complexity
-    ///
-    /// No comparisons.
-    ///
     /// # Examples
     ///
     /// ```
@@ -76,10 +64,6 @@ impl<T: Eq> VecSet<T> {
     }
 
     /// Returns the stored element that matches `query`, or `None` if no element matches.
-    ///
-    /// # Complexity
-    ///
-    /// At most `len` comparisons.
     ///
     /// # Examples
     ///
@@ -101,10 +85,6 @@ impl<T: Eq> VecSet<T> {
 
     /// Returns the element at `index`, or `None` if `index` is out of range.
     ///
-    /// # Complexity
-    ///
-    /// No comparisons.
-    ///
     /// # Examples
     ///
     /// ```
@@ -125,10 +105,6 @@ impl<T: Eq> VecSet<T> {
     }
 
     /// Returns the index of the element that matches `query`, and the stored element, or `None` if no element matches.
-    ///
-    /// # Complexity
-    ///
-    /// At most `len` comparisons.
     ///
     /// # Examples
     ///
@@ -155,10 +131,6 @@ impl<T: Eq> VecSet<T> {
     }
 
     /// Returns the index of the element that matches `query`, or `None` if no element matches.
-    ///
-    /// # Complexity
-    ///
-    /// At most `len` comparisons.
     ///
     /// # Examples
     ///

@@ -60,10 +60,6 @@ impl<T: Eq> VecSet<T> {
 
     /// Returns the elements in order, as a slice. They are distinct.
     ///
-    /// # Complexity
-    ///
-    /// No moves. Does not allocate.
-    ///
     /// # Examples
     ///
     /// ```
@@ -78,10 +74,6 @@ impl<T: Eq> VecSet<T> {
     }
 
     /// Returns the elements in order, in the vector that held them.
-    ///
-    /// # Complexity
-    ///
-    /// No moves. Does not allocate.
     ///
     /// # Examples
     ///

@@ -37,10 +37,6 @@ impl<T: Eq> VecSet<T> {
     ///
     /// `a` and `b` are less than [`VecSet::len`].
     ///
-    /// # Complexity
-    ///
-    /// No comparisons.
-    ///
     /// # Examples
     ///
     /// ```

@@ -12,10 +12,6 @@ use vecmap_base::{Equivalent, find_item_equivalent, remove_item, retain_items};
 impl<T: Eq> VecSet<T> {
     /// Drops all elements, in order. The capacity stays.
     ///
-    /// # Complexity
-    ///
-    /// No comparisons and no moves.
-    ///
     /// # Examples
     ///
     /// ```
@@ -37,10 +33,6 @@ impl<T: Eq> VecSet<T> {
     /// Keeps the first `len` elements and drops the others.
     ///
     /// If the set has no more than `len` elements, nothing changes. The capacity stays.
-    ///
-    /// # Complexity
-    ///
-    /// No comparisons and no moves.
     ///
     /// # Examples
     ///
@@ -137,10 +129,6 @@ impl<T: Eq> VecSet<T> {
     }
 
     /// Removes the last element and returns it, or `None` if the set is empty.
-    ///
-    /// # Complexity
-    ///
-    /// No comparisons and no moves.
     ///
     /// # Examples
     ///
