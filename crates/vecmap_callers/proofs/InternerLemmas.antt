@@ -1,7 +1,6 @@
 -- What an interner holds under the id that it finds.
-use Rattle.std.specs.Prelude.{◌≡◌, ℕ, List, [], ◌∷◌, None, Some, String, option_map, string_bytes}
-use Rattle.std.proofs.{Common.{ap, sym, ◌∙◌}, lemmas.List.Quantifiers.position-Some, lemmas.Option.slice_get-get_or}
-use Rattle.std.proofs.lemmas.Slice.Eq.{bytes_eq-Decides}
+use Rattle.std.{specs.Prelude.{◌≡◌, ℕ, List, [], ◌∷◌, None, Some, String, option_map, string_bytes}, proofs.Common.{ap, sym, ◌∙◌}}
+use Rattle.std.proofs.lemmas.{List.Quantifiers.position-Some, Option.slice_get-get_or, Slice.Eq.bytes_eq-Decides}
 use Rattle.vecmap.specs.Pairs.{has_text}
 use Rattle.vecmap_callers.specs.Interner.{id_of, text_of}
 

@@ -1,6 +1,5 @@
 -- What an option is after overrides are laid over others.
-use Rattle.std.specs.{Prelude.{◌≡◌, Bool, List}, Cmp.IsEquivalence, Option.option_or}
-use Rattle.std.proofs.Common.{ap, ◌∙◌}
+use Rattle.std.{specs.{Prelude.{◌≡◌, Bool, List}, Cmp.IsEquivalence, Option.option_or}, proofs.Common.{ap, ◌∙◌}}
 use Rattle.vecmap.specs.Pairs.{HasDistinctKeys, lookup, puts}
 use Rattle.vecmap_laws.proofs.AfterPuts.{lookup_puts_distinct, option_or_assoc}
 

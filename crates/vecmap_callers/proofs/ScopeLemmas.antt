@@ -1,9 +1,8 @@
 -- What names mean after the innermost scope is replaced. Idea: `resolved` is a fold whose last step reads the innermost
 -- scope, so only that step changes.
-use Rattle.std.specs.Prelude.{◌≡◌, ◌+◌, ◌-◌, ◌<◌, ℕ, Bool, true, false, List, [], ◌∷◌, None, Option, Some, if◌then◌else◌, fold, length, slice_set, take, refl}
-use Rattle.std.specs.{Cmp.IsEquivalence, Option.option_or}
-use Rattle.std.proofs.{Common.{ap, arith, get_or, sym, ◌∙◌}, Math.Seq.take-length, lemmas.List.{length-set, take_more_set}}
-use Rattle.std.proofs.lemmas.List.Sums.{fold-append, fold_more}
+use Rattle.std.specs.Prelude.{◌≡◌, ◌+◌, ◌-◌, ◌<◌, ℕ, Bool, true, false, List, [], ◌∷◌, None, Option, Some, if◌then◌else◌, fold, length}
+use Rattle.std.{specs.{Prelude.{slice_set, take, refl}, Cmp.IsEquivalence, Option.option_or}, proofs.Common.{ap, arith, get_or, sym, ◌∙◌}}
+use Rattle.std.proofs.{Math.Seq.take-length, lemmas.List.{length-set, take_more_set, Sums.{fold-append, fold_more}}}
 use Rattle.vecmap.specs.{Contents.Contents, Pairs.{lookup, put}}
 use Rattle.vecmap_laws.proofs.AfterPuts.{lookup_put_any}
 use Rattle.vecmap_callers.specs.Scopes.{resolved}

@@ -1,10 +1,9 @@
 -- What a query finds after an addition. By induction on the list for an element that does not match. A matching element
 -- is found as an equal one is.
 use Rattle.std.specs.{Cmp.IsEquivalence, Map.IsKeyTest}
-use Rattle.std.proofs.Common.{arith, ◌≡◌, Bool, false, List, [], ◌∷◌, Some, IsTrue, if◌then◌else◌, length, option_map, position, unwrap_or, sym, ap, ◌∙◌}
-use Rattle.std.proofs.lemmas.Bool.{cases_Bool}
-use Rattle.vecmap_base.specs.Items.{add, item_index}
-use Rattle.vecmap_base.proofs.{ItemsLemmas.Recursion.add_cons, IndexLemmas.position_cons}
+use Rattle.std.proofs.Common.{arith, ◌≡◌, Bool, false, List, [], ◌∷◌, Some, IsTrue, if◌then◌else◌, length, option_map, position, unwrap_or}
+use Rattle.std.proofs.{Common.{sym, ap, ◌∙◌}, lemmas.Bool.cases_Bool}
+use Rattle.vecmap_base.{specs.Items.{add, item_index}, proofs.{ItemsLemmas.Recursion.add_cons, IndexLemmas.position_cons}}
 use Rattle.vecmap_laws.proofs.{ItemIndices.item_index_add, ItemQueries.tells_as}
 
 module _ {T : Type 0} (eq : T → T → Bool) (test : T → Bool) where

@@ -2,8 +2,7 @@
 -- order is one about the shorter and the other.
 use Rattle.std.specs.{Set.is_member, Cmp.IsEquivalence, List.IsDistinct}
 use Rattle.std.proofs.Common.{◌≡◌, ◌+◌, ◌∙◌, Bool, true, ◌&&◌, ◌||◌, List, [], arith, length, nat_lt, not}
-use Rattle.vecmap_base.specs.{Equality.has_same_items, Items.adds, Items.both}
-use Rattle.vecmap_base.proofs.EqualityLemmas.{Sets.set_equality_laws}
+use Rattle.vecmap_base.{specs.{Equality.has_same_items, Items.{adds, both}}, proofs.EqualityLemmas.Sets.set_equality_laws}
 use Rattle.vecmap_set.specs.Lazy.{Filtered, Parts, filtered_of, filtered_of_shorter, filtered_rest, longer_first, union_parts, union_rest}
 use Rattle.vecmap_set.specs.Operators.{symmetric_difference_of, union_of}
 use Rattle.vecmap_laws.proofs.{ItemMembers.is_member_adds, SetRelations.{both_turned, length_both_turned, length_union, union_turned}}

@@ -1,9 +1,7 @@
 -- What is found after insertions that combine values.
-use Rattle.std.proofs.Common.{arith, ◌≡◌, Bool, List, ◌∷◌, None}
-use Rattle.std.specs.{Cmp.IsEquivalence, Option.option_map_or}
-use Rattle.vecmap_laws.proofs.{AfterPuts.lookup_put_any, Lookups.lookup_congr, Recursion.lookup_cons}
+use Rattle.std.{proofs.Common.{arith, ◌≡◌, Bool, List, ◌∷◌, None}, specs.{Cmp.IsEquivalence, Option.option_map_or}}
+use Rattle.vecmap_laws.{proofs.{AfterPuts.lookup_put_any, Lookups.lookup_congr, Recursion.lookup_cons}, specs.Combining.{combine, put_with}}
 use Rattle.vecmap_base.specs.Pairs.{lookup}
-use Rattle.vecmap_laws.specs.Combining.{combine, put_with}
 
 module _ {K V : Type 0} (eq : K → K → Bool) where
   module _ (o : IsEquivalence eq) where

@@ -1,10 +1,9 @@
 -- The number of comparisons that a removal of duplicates makes if no two elements are equal.
 use Rattle.std.specs.{Cmp.IsEquivalence, List.IsDistinct, Map.keys_of}
 use Rattle.std.proofs.Common.{◌≡◌, suc, ◌+◌, Bool, List, [], ◌∷◌, ◌++◌, length, sym, ap, ◌∙◌, subst, arith}
-use Rattle.std.proofs.lemmas.{List.append_assoc, List.length_push, Map.Entries.length-keys_of}
-use Rattle.vecmap_base.specs.{Pairs.HasDistinctKeys, Comparisons.{adds_cost, comparisons, cost}}
-use Rattle.vecmap_base.proofs.{ItemsLemmas.Additions.add_absent, DuplicatesLemmas.Cost.cost_more}
-use Rattle.vecmap_base.proofs.DuplicatesLemmas.Comparisons.{search_cost_absent}
+use Rattle.std.proofs.lemmas.{List.{append_assoc, length_push}, Map.Entries.length-keys_of}
+use Rattle.vecmap_base.{specs.{Pairs.HasDistinctKeys, Comparisons.{adds_cost, comparisons, cost}}, proofs.ItemsLemmas.Additions.add_absent}
+use Rattle.vecmap_base.proofs.DuplicatesLemmas.{Cost.cost_more, Comparisons.search_cost_absent}
 use Rattle.vecmap_laws.proofs.DistinctAbsent.{none_before}
 
 module _ {T : Type 0} (eq : T → T → Bool) (o : IsEquivalence eq) where

@@ -1,9 +1,8 @@
 -- Distinct keys stay distinct in parts of a list, without one of them, and in what a closure that writes no key keeps.
-use Rattle.std.specs.{List.IsDistinct, List.remove_range, Map.keys_of}
+use Rattle.std.specs.{List.{IsDistinct, remove_range}, Map.keys_of}
 use Rattle.std.proofs.Common.{◌≡◌, ℕ, ◌≤◌, ◌-◌, Bool, List, ◌++◌, drop, filter, slice_range, take, subst, sym, ◌∙◌}
-use Rattle.std.proofs.lemmas.{List.drop-map, List.map-append, List.take-map, Map.Made.IsDistinct-keys_filter}
-use Rattle.vecmap_base.specs.Pairs.{HasDistinctKeys}
-use Rattle.vecmap_base.proofs.DistinctLemmas.Removals.{distinct_drop, distinct_remove_range, distinct_take}
+use Rattle.std.proofs.lemmas.{List.{drop-map, map-append, take-map}, Map.Made.IsDistinct-keys_filter}
+use Rattle.vecmap_base.{specs.Pairs.HasDistinctKeys, proofs.DistinctLemmas.Removals.{distinct_drop, distinct_remove_range, distinct_take}}
 use Rattle.vecmap_laws.proofs.DistinctKeys.{distinct_keys_take}
 
 module _ {T : Type 0} (eq : T → T → Bool) where

@@ -1,8 +1,7 @@
 -- A function of each key and each value of a list of pairs, and a fact about each value.
 use Rattle.std.proofs.Common.{arith, ◌≡◌, Bool, true, false, List, [], ◌∷◌, Some, All, if◌then◌else◌, map, option_map, refl, subst}
-use Rattle.std.proofs.{lemmas.{List.Elements.All-cons, List.Elements.All-head, List.Elements.All-tail}, lemmas.List.Elements.All-contains}
-use Rattle.vecmap_base.specs.Pairs.{lookup, map_values, put}
-use Rattle.vecmap_base.proofs.{PairsLemmas.Indices.lookup_by_map_values, PairsLemmas.Order.pair_of_value}
+use Rattle.std.proofs.lemmas.List.Elements.{All-cons, All-head, All-tail, All-contains}
+use Rattle.vecmap_base.{specs.Pairs.{lookup, map_values, put}, proofs.PairsLemmas.{Indices.lookup_by_map_values, Order.pair_of_value}}
 
 -- `f` of a key has the `==` of the key, as the bytes of a text have.
 module _ {K L V W : Type 0} (eq : K → K → Bool) (eq_image : L → L → Bool) (f : K → L) (same : (x y : K) → eq_image (f x) (f y) ≡ eq x y) (g : V → W) where

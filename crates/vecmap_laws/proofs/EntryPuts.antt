@@ -1,8 +1,7 @@
 -- An insertion by an entry leaves what `put` gives.
 use Rattle.std.specs.{Prelude.{◌≡◌, Bool, List, [], ◌∷◌, ◌++◌, None, Some, IsSome}, Option.option_map_or}
 use Rattle.std.proofs.Common.{sym, ap, ◌∙◌, true≢false}
-use Rattle.vecmap_base.proofs.PairsLemmas.ByIndex.{put_by_index}
-use Rattle.vecmap_base.specs.Pairs.{index_of, put, with_value}
+use Rattle.vecmap_base.{proofs.PairsLemmas.ByIndex.put_by_index, specs.Pairs.{index_of, put, with_value}}
 use Rattle.vecmap_map.specs.{Entry.{AreEntriesWith, entry_key, entry_map, entry_index_of}, declared.entry.Entry.Entry}
 use Rattle.vecmap_map.specs.declared.entry.Entry.TheVariants.{Occupied, Vacant}
 

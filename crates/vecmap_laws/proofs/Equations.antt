@@ -1,6 +1,5 @@
 -- Equations between lists that calls leave.
-use Rattle.std.specs.{Cmp.IsEquivalence}
-use Rattle.std.proofs.Common.{◌≡◌, Bool, List, [], ◌∷◌, arith}
+use Rattle.std.{specs.Cmp.IsEquivalence, proofs.Common.{◌≡◌, Bool, List, [], ◌∷◌, arith}}
 use Rattle.vecmap_base.specs.Pairs.{put}
 use Rattle.vecmap_laws.proofs.Recursion.{put_cons}
 

@@ -1,10 +1,9 @@
 -- A removal from a list of distinct items leaves the items that do not pass its test.
 use Rattle.std.proofs.Common.{◌≡◌, Bool, true, false, ◌||◌, List, [], ◌∷◌, ap, filter, map, if◌then◌else◌, inl, inr, not, refl, sym, ◌∙◌}
-use Rattle.std.proofs.lemmas.{Bool.cases_Bool, Map.Keys.IsDistinct-tail}
-use Rattle.std.specs.{Cmp.IsEquivalence, List.IsDistinct, List.list_any, Map.IsKeyTest}
+use Rattle.std.{proofs.lemmas.{Bool.cases_Bool, Map.Keys.IsDistinct-tail}, specs.{Cmp.IsEquivalence, List.{IsDistinct, list_any}}}
+use Rattle.std.specs.Map.{IsKeyTest}
 use Rattle.vecmap_laws.proofs.{Recursion.without_by_is, ItemQueries.tells_as, ItemRecursion.without_first_cons, HeadLemmas.head_not_in_rest}
-use Rattle.vecmap_base.proofs.IndexLemmas.{list_any_map}
-use Rattle.vecmap_base.specs.{Items.without_first, Pairs.{HasDistinctKeys, without_by, without_key}}
+use Rattle.vecmap_base.{proofs.IndexLemmas.list_any_map, specs.{Items.without_first, Pairs.{HasDistinctKeys, without_by, without_key}}}
 
 -- If no item passes, a filter by the others keeps the list.
 pub filter_none : {X : Type 0} (test : X → Bool) (xs : List X) → list_any test xs ≡ false → filter (λ x. not (test x)) xs ≡ xs

@@ -1,9 +1,8 @@
 -- Lists of distinct keys, and of distinct elements, by the first item and the rest.
 use Rattle.std.proofs.{Common.{◌≡◌, Bool, false, List, ◌∷◌, None}, lemmas.Map.Keys.{IsDistinct-head, IsDistinct-tail}}
-use Rattle.std.specs.{List.IsDistinct, List.list_any, Map.keys_of}
-use Rattle.vecmap_base.proofs.DistinctLemmas.Absent.{none_equal}
+use Rattle.std.specs.{List.{IsDistinct, list_any}, Map.keys_of}
+use Rattle.vecmap_base.{proofs.DistinctLemmas.Absent.none_equal, specs.Pairs.{HasDistinctKeys, lookup}}
 use Rattle.vecmap_laws.proofs.Lookups.{lookup_absent}
-use Rattle.vecmap_base.specs.Pairs.{HasDistinctKeys, lookup}
 
 module _ {T : Type 0} (eq : T → T → Bool) where
   -- The first of distinct elements is equal to none of the rest.

@@ -1,9 +1,7 @@
 -- At which index a key is found after a removal, and in the front of the list.
 use Rattle.std.proofs.Common.{◌≡◌, ℕ, Bool, List, ap, sym, take, ◌∙◌}
-use Rattle.vecmap_base.proofs.PairsLemmas.ByIndex.{index_by_is}
-use Rattle.vecmap_base.specs.Pairs.{index_by}
-use Rattle.vecmap_laws.specs.Removals.{below}
-use Rattle.vecmap_laws.proofs.ItemsAfter.{position_take}
+use Rattle.vecmap_base.{proofs.PairsLemmas.ByIndex.index_by_is, specs.Pairs.index_by}
+use Rattle.vecmap_laws.{specs.Removals.below, proofs.ItemsAfter.position_take}
 
 module _ {K V : Type 0} (test : K → Bool) where
   -- In the first `n` pairs, the index stays if it is below `n`.

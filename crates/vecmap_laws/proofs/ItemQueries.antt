@@ -1,8 +1,7 @@
 -- What a query finds that matches exactly the elements that are equal to one of its matches.
-use Rattle.std.specs.{Cmp.IsEquivalence, List.IsDistinct, List.list_any, Map.IsKeyTest}
-use Rattle.std.proofs.Common.{◌≡◌, Bool, false, List, IsTrue, refl}
-use Rattle.vecmap_base.specs.Items.{without_first}
-use Rattle.vecmap_base.proofs.{ItemsLemmas.Members.members_of_first, PairsLemmas.Lookups.compares_with, TakenLemmas.first_by_shift}
+use Rattle.std.{specs.{Cmp.IsEquivalence, List.{IsDistinct, list_any}, Map.IsKeyTest}, proofs.Common.{◌≡◌, Bool, false, List, IsTrue, refl}}
+use Rattle.vecmap_base.{specs.Items.without_first, proofs.{ItemsLemmas.Members.members_of_first, PairsLemmas.Lookups.compares_with}}
+use Rattle.vecmap_base.proofs.TakenLemmas.{first_by_shift}
 
 module _ {T : Type 0} (eq : T → T → Bool) (o : IsEquivalence eq) (test : T → Bool) (respects : IsKeyTest eq test) where
   -- A query that matches `x` matches exactly the elements that are equal to `x`.

@@ -1,8 +1,6 @@
 -- What a removal leaves.
-use Rattle.std.specs.{Set.is_member, Cmp.IsEquivalence, List.IsDistinct}
-use Rattle.std.proofs.Common.{◌≡◌, Bool, false, List, refl}
-use Rattle.vecmap_base.specs.Items.{without_item}
-use Rattle.vecmap_base.proofs.{ItemsLemmas.Members.members_of_first, TakenLemmas.first_by_shift}
+use Rattle.std.{specs.{Set.is_member, Cmp.IsEquivalence, List.IsDistinct}, proofs.Common.{◌≡◌, Bool, false, List, refl}}
+use Rattle.vecmap_base.{specs.Items.without_item, proofs.{ItemsLemmas.Members.members_of_first, TakenLemmas.first_by_shift}}
 
 module _ {T : Type 0} (eq : T → T → Bool) (o : IsEquivalence eq) where
   -- After a removal from a distinct list, no equal element is left.

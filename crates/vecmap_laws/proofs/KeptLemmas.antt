@@ -1,6 +1,5 @@
 -- What a closure leaves of a list if each call returns the result of a test, or writes the item in the same way.
-use Rattle.std.specs.Prelude.{◌≡◌, Bool, List, [], ◌∷◌, filter, if◌then◌else◌, refl}
-use Rattle.std.proofs.Common.{arith, subst, ◌∙◌}
+use Rattle.std.{specs.Prelude.{◌≡◌, Bool, List, [], ◌∷◌, filter, if◌then◌else◌, refl}, proofs.Common.{arith, subst, ◌∙◌}}
 use Rattle.vecmap_base.specs.Kept.{Kept, TestsItems}
 
 module _ {F X : Type 0} (R : F → X → Bool → X → F → Type 0) where

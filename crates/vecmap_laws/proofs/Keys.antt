@@ -1,6 +1,5 @@
 -- The keys of a list of pairs, as a list of elements. What changes the pairs changes the keys in the same way.
-use Rattle.std.specs.Map.{keys_of}
-use Rattle.std.proofs.Common.{arith, ◌≡◌, Bool, List, [], ◌∷◌}
+use Rattle.std.{specs.Map.keys_of, proofs.Common.{arith, ◌≡◌, Bool, List, [], ◌∷◌}}
 use Rattle.vecmap_base.specs.{Items.without_item, Pairs.without_key}
 use Rattle.vecmap_laws.proofs.{ItemRecursion.without_item_cons, Recursion.without_key_cons}
 pub use Rattle.vecmap_base.proofs.PairsLemmas.Distinct.{keys_of_remove}

@@ -36,7 +36,7 @@ pub mod KeptLemmas
 pub mod Keys
 pub use Rattle.vecmap_set.proofs.LazyLemmas
 pub mod Lookups
-pub use Rattle.vecmap_base.proofs.LoopLemmas
+pub mod LoopLemmas
 pub mod MapCongruence
 pub mod MapEquality
 pub mod NestedLemmas
@@ -60,7 +60,7 @@ pub mod SetRelations
 pub mod SortedLemmas
 pub mod TextQueries
 pub mod TwoKeys
-pub use Rattle.vecmap_base.proofs.UpdatedLemmas
+pub mod UpdatedLemmas
 pub mod Values
 pub mod WalkLemmas
 pub mod WholeLemmas

@@ -2,8 +2,7 @@
 use Rattle.std.specs.{Cmp.IsEquivalence, List.list_any, Map.keys_of}
 use Rattle.std.proofs.Common.{arith, ◌≡◌, Bool, true, false, List, [], ◌∷◌, None, Option, Some, is_some, if◌then◌else◌, refl, sym, ap, ◌∙◌, true≢false}
 use Rattle.vecmap_base.specs.{Pairs.HasDistinctKeys, Pairs.lookup, Pairs.lookup_by, Pairs.put, Pairs.without_by, Pairs.without_key}
-use Rattle.vecmap_base.proofs.PairsLemmas.Lookups.{lookup_by_without, updates_put}
-use Rattle.vecmap_base.proofs.PairsLemmas.{ByIndex.is_some_lookup_by, Indices.is_some_index_of}
+use Rattle.vecmap_base.proofs.PairsLemmas.{ByIndex.is_some_lookup_by, Indices.is_some_index_of, Lookups.updates_put, Updates.updates_of_without}
 
 module _ {K V : Type 0} (test other : K → Bool) (apart : (k : K) → test k ≡ true → other k ≡ false) where
   -- A query that matches no key of a removal's finds what it found before.
@@ -39,7 +38,7 @@ module _ {K V : Type 0} (eq : K → K → Bool) where
 
     -- A key that is removed from a list of distinct keys is absent.
     pub lookup_without_key : (l : List (K × V)) (k : K) → HasDistinctKeys eq l → lookup eq (without_key eq l k) k ≡ None
-    lookup_without_key l k d = lookup_by_without eq o (eq k) (o.congr k) l d
+    lookup_without_key l k d = (updates_of_without eq o (eq k) (o.congr k) l (without_key eq l k) refl d).own
 
     -- After a removal, each other key has its old value.
     pub lookup_without_key_other : (l : List (K × V)) (k q : K) → eq k q ≡ false → lookup eq (without_key eq l k) q ≡ lookup eq l q

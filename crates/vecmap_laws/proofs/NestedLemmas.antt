@@ -1,13 +1,12 @@
 -- The lists of the collections that are the values of a map, after a write of one of them. `inside` is the list of a
 -- collection, and IsMade holds of a collection that was created empty. The idea: a lookup after `put` finds the written
 -- collection at its key, and at other keys what it found before.
-use Rattle.std.specs.{Cmp.IsEquivalence, Option.UnwrapsOrElse, Option.option_map_or}
+use Rattle.std.specs.{Cmp.IsEquivalence, Option.{UnwrapsOrElse, option_map_or}}
 use Rattle.std.proofs.{Common.{arith, ◌≡◌, Bool, true, false, List, [], ap, subst, ◌∙◌}, lemmas.Bool.cases_Bool}
 use Rattle.vecmap_base.specs.Pairs.{index_of, lookup, put}
-use Rattle.vecmap_map.specs.{Contents.Contents, Entry.entries_with, Entry.entry_key, Entry.entry_map, Entry.entry_index_of, Entry.entry_value}
-use Rattle.vecmap_map.specs.declared.entry.Entry.{Entry}
+use Rattle.vecmap_map.specs.{Contents.Contents, Entry.{entries_with, entry_key, entry_map, entry_index_of, entry_value}}
+use Rattle.vecmap_map.{specs.declared.entry.Entry.Entry, proofs.EntryLemmas.Puts.{entries_with_put, entry_value_is}}
 use Rattle.vecmap_laws.proofs.Lookups.{lookup_congr, lookup_put, lookup_put_other}
-use Rattle.vecmap_map.proofs.EntryLemmas.Puts.{entries_with_put, entry_value_is}
 
 module _ {K W A : Type 0} (eq : K → K → Bool) (inside : W → List A) where
   -- The list of the collection of a key, or the empty list.

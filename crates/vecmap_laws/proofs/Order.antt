@@ -1,8 +1,6 @@
 -- What lookups find in another order.
-use Rattle.std.proofs.Common.{◌≡◌, Bool, List}
-use Rattle.std.specs.{Cmp.IsEquivalence, List.Sorted.IsPermutation}
-use Rattle.vecmap_base.specs.Pairs.{HasDistinctKeys, lookup}
-use Rattle.vecmap_base.proofs.PairsLemmas.Order.{lookup_by_rearranged}
+use Rattle.std.{proofs.Common.{◌≡◌, Bool, List}, specs.{Cmp.IsEquivalence, List.Sorted.IsPermutation}}
+use Rattle.vecmap_base.{specs.Pairs.{HasDistinctKeys, lookup}, proofs.PairsLemmas.Order.lookup_by_rearranged}
 
 module _ {K V : Type 0} (eq : K → K → Bool) (o : IsEquivalence eq) where
   -- If all keys are distinct, lookups do not depend on the order.

@@ -1,11 +1,10 @@
 -- What lookups find in a list of two parts, and the value and the index of a key after many insertions.
 use Rattle.std.proofs.{lemmas.Grind.common_steps, Common.{arith, ◌≡◌, ℕ, Bool, List, [], ◌∷◌, ◌++◌, Some, position, reverse, sym, ap, ◌∙◌}}
-use Rattle.std.specs.{Cmp.IsEquivalence, Option.option_or, Map.keys_of}
-use Rattle.std.proofs.lemmas.{List.reverse-append}
-use Rattle.vecmap_base.specs.{Items.adds, Items.item_index, Pairs.index_of, Pairs.lookup, Pairs.put, Pairs.puts}
+use Rattle.std.{proofs.lemmas.List.reverse-append, specs.{Cmp.IsEquivalence, Option.option_or, Map.keys_of}}
+use Rattle.vecmap_base.specs.{Items.{adds, item_index}, Pairs.{index_of, lookup, put, puts}}
 use Rattle.vecmap_base.proofs.PairsLemmas.Keys.{index_of_is, keys_of_puts}
-pub use Rattle.vecmap_base.proofs.PairsLemmas.Parts.{lookup_by_append}
 use Rattle.vecmap_laws.proofs.{AfterPuts.{lookup_put_any, option_or_assoc, option_or_none}, ItemMembers.item_index_adds_kept, Lookups.look}
+pub use Rattle.vecmap_base.proofs.PairsLemmas.Parts.{lookup_by_append}
 
 module _ {K V : Type 0} (eq : K → K → Bool) where
   pub lookup_append : (a b : List (K × V)) (q : K) → lookup eq (a ++ b) q ≡ option_or (lookup eq a q) (lookup eq b q)

@@ -1,6 +1,5 @@
 -- The first index of an item that passes a test, in a list of two parts.
-use Rattle.std.proofs.Common.{arith, ◌≡◌, ◌+◌, Bool, List, [], ◌∷◌, ◌++◌, length, option_map, position}
-use Rattle.std.specs.Option.{option_or}
+use Rattle.std.{proofs.Common.{arith, ◌≡◌, ◌+◌, Bool, List, [], ◌∷◌, ◌++◌, length, option_map, position}, specs.Option.option_or}
 use Rattle.vecmap_base.proofs.IndexLemmas.{position_cons}
 pub use Rattle.vecmap_base.proofs.IndexLemmas.{is_some-map}
 

@@ -1,6 +1,5 @@
 -- The definitions on pairs, for a list with one pair more, and removals as those of items.
-use Rattle.std.specs.Option.{option_map_or}
-use Rattle.std.proofs.Common.{◌≡◌, ◌∙◌, ap, Bool, List, ◌∷◌, Some, if◌then◌else◌, refl, remove}
+use Rattle.std.{specs.Option.option_map_or, proofs.Common.{◌≡◌, ◌∙◌, ap, Bool, List, ◌∷◌, Some, if◌then◌else◌, refl, remove}}
 use Rattle.vecmap_base.specs.Items.{swap_without, swap_without_first, without_first}
 use Rattle.vecmap_base.specs.Pairs.{lookup, swap_without_by, without_by, without_key}
 use Rattle.vecmap_base.proofs.PairsLemmas.ByIndex.{index_by_is, without_by_index}

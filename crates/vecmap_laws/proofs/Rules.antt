@@ -3,7 +3,7 @@ use Rattle.std.specs.{Prelude.{◌≡◌, Bool, Err, List, Ok, OnErr, Result, []
 use Rattle.std.proofs.Common.{subst, sym}
 use Rattle.vecmap_base.specs.Pairs.{HasDistinctKeys}
 use Rattle.vecmap_base.proofs.{DistinctLemmas.Absent.distinct_none, DistinctLemmas.Additions.{distinct_add, distinct_adds}}
-use Rattle.vecmap_base.proofs.{LoopLemmas.{key_stays, keys_written}, PairsLemmas.Keys.{keys_of_put, keys_of_puts}, WalkLemmas.drained_all}
+use Rattle.vecmap_base.proofs.{PairsLemmas.Keys.{keys_of_put, keys_of_puts}, WalkLemmas.drained_all}
 use Rattle.vecmap_laws.proofs.{AlgebraLemmas.is_member_of_collected, AtNumbers.{lookups_of_equal_numbers, put_put_of_numbers}}
 use Rattle.vecmap_laws.proofs.AfterPuts.{index_of_congr, index_of_put, lookup_put_any, lookup_puts_distinct, lookup_without_any}
 use Rattle.vecmap_laws.proofs.{AtTexts.{lookups_of_equal_texts, put_put_of_texts}, DistinctParts.{distinct_keys_drop, distinct_keys_filter}}
@@ -15,7 +15,7 @@ use Rattle.vecmap_laws.proofs.DistinctKeys.{distinct_keys_remove, distinct_keys_
 use Rattle.vecmap_laws.proofs.{EachPair.{all_without, filter_without, nothing_written}, EachValue.holds_after_put, Puts.puts_restore}
 use Rattle.vecmap_laws.proofs.{NewKeys.{absent_before, new_above}, ItemMembers.{is_member_add, is_member_adds}, IndicesAfter.index_by_take}
 use Rattle.vecmap_laws.proofs.Finds.{distinct_keys_reverse, distinct_swapped, distinct_without_key, is_member_swap_without, is_member_without, lookup_drop, lookup_put_at_any, lookup_put_key_any, lookup_reverse, lookup_swap, lookup_swap_without_key, lookup_swapped, lookup_take, present}
-use Rattle.vecmap_laws.proofs.{Lookups.lookup_without_key_other, Queries.lookup_put_any_query, ItemIndices.{item_index_add, slice_get_add}}
+use Rattle.vecmap_laws.proofs.{LoopLemmas.{key_stays, keys_written}, Lookups.lookup_without_key_other, Queries.lookup_put_any_query, ItemIndices.{item_index_add, slice_get_add}}
 
 -- An empty list has no two equal keys.
 pub distinct_empty : {K V : Type 0} (eq : K → K → Bool) (l : List (K × V)) → l ≡ [] → HasDistinctKeys eq l

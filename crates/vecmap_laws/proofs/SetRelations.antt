@@ -1,12 +1,11 @@
 -- The elements that are in both of two lists, and those that are in only one of them.
 use Rattle.std.specs.{Prelude.{◌≡◌, ◌+◌, Bool, true, ◌||◌, not, List, ◌++◌, length, refl}, Cmp.IsEquivalence, List.IsDistinct}
-use Rattle.std.specs.Set.{is_member}
-use Rattle.std.proofs.{Common.{sym, ◌∙◌, arith, length-append}, Math.Bool.{and_comm, or_comm}, lemmas.List.Filters.length-filter_both}
-use Rattle.std.proofs.{lemmas.List.Folds.list_any-append, lemmas.Map.Made.length-from_same_keys}
+use Rattle.std.{specs.Set.is_member, proofs.{Common.{sym, ◌∙◌, arith, length-append}, Math.Bool.{and_comm, or_comm}}}
+use Rattle.std.proofs.lemmas.{List.{Filters.length-filter_both, Folds.list_any-append}, Map.Made.length-from_same_keys}
 use Rattle.vecmap_base.specs.{Equality.has_same_items, Items.{both, only}}
+use Rattle.vecmap_set.proofs.OperatorLemmas.{is_member_union as member_of_union}
 pub use Rattle.vecmap_base.proofs.EqualityLemmas.Sets.{same_items}
 pub use Rattle.vecmap_base.proofs.EqualityLemmas.Relations.{is_member_both, both_empty_turned, distinct_both, distinct_only, distinct_union, distinct_symmetric_difference}
-use Rattle.vecmap_set.proofs.OperatorLemmas.{is_member_union as member_of_union}
 
 module _ {T : Type 0} (eq : T → T → Bool) (o : IsEquivalence eq) where
   -- The elements in both lists do not depend on the order of the two lists, and neither do those in one or the other.

@@ -1,11 +1,10 @@
 -- What two keys find in a map of maps after an insertion into the map of a key. The idea: a query that matches the key
 -- finds the changed map, and any other query finds one that has not changed.
 use Rattle.std.proofs.Common.{◌≡◌, Bool, true, false, ◌&&◌, IsTrue, List, [], Some, ap, if◌then◌else◌, inl, inr, refl, sym, ◌∙◌}
-use Rattle.std.proofs.lemmas.Bool.{cases_Bool}
-use Rattle.std.specs.{Cmp.IsEquivalence, Map.IsKeyTest, Option.option_map_or}
+use Rattle.std.{proofs.lemmas.Bool.cases_Bool, specs.{Cmp.IsEquivalence, Map.IsKeyTest, Option.option_map_or}}
 use Rattle.vecmap_laws.proofs.{Queries.{lookup_by_query, lookup_put_other_query, lookup_put_query}, RemovalLemmas.query_finds_same}
-use Rattle.vecmap_base.specs.Pairs.{lookup_by, put}
 use Rattle.vecmap_laws.specs.Nested.{inner_entries, inner_entries_by}
+use Rattle.vecmap_base.specs.Pairs.{lookup_by, put}
 use Rattle.vecmap_map.specs.Contents.{Contents}
 
 module _ {K N V : Type 0} (eq : K → K → Bool) (o : IsEquivalence eq) (test : K → Bool) (respects : IsKeyTest eq test) where

@@ -1,14 +1,13 @@
 -- A write of the value that a key or a query finds, and what lookups find after it. The idea: the write is `put` of any
 -- key that the query matches, so the lemmas on `put` hold.
-use Rattle.std.specs.Option.{option_map_or}
-use Rattle.std.proofs.Common.{arith, ◌≡◌, ℕ, Bool, List, [], ◌∷◌, None, Some, IsSome, true, ap, refl, sym, ◌∙◌, false, IsTrue, bytes_eq, string_bytes, string_eq, String, subst, if◌then◌else◌}
+use Rattle.std.specs.{Option.option_map_or, Cmp.{IsEquivalence, Lexicographic.nat_list_eq_equiv}, declared.alloc.Global.Global}
+use Rattle.std.specs.Map.{IsKeyTest, keys_of, set_value}
+use Rattle.std.proofs.Common.{arith, ◌≡◌, ℕ, Bool, List, [], ◌∷◌, None, Some, IsSome, true, ap, refl, sym, ◌∙◌, false, IsTrue, bytes_eq}
+use Rattle.std.proofs.{Common.{string_bytes, string_eq, String, subst, if◌then◌else◌}, lemmas.Map.{keys-set_value, Steps.set_value_same}}
 use Rattle.vecmap_base.specs.Pairs.{index_of, put, with_value, has_text, index_by, lookup, lookup_by}
+use Rattle.vecmap_base.proofs.PairsLemmas.{ByIndex.{put_by_index, set_value_by_index, is_some_lookup_by}, Updates.updates_write}
 use Rattle.vecmap_map.specs.Contents.{Contents, with_entries, with_value_of, with_value_by}
-use Rattle.std.specs.{Cmp.IsEquivalence, Cmp.Lexicographic.nat_list_eq_equiv, declared.alloc.Global.Global, Map.IsKeyTest, Map.keys_of, Map.set_value, Option.option_map_or}
-use Rattle.std.proofs.{lemmas.{Map.keys-set_value}, lemmas.Map.Steps.set_value_same}
-use Rattle.vecmap_base.proofs.PairsLemmas.ByIndex.{put_by_index, set_value_by_index}
 use Rattle.vecmap_laws.proofs.{ItemQueries.tells_as, Queries.{string_equality, text_respects}}
-use Rattle.vecmap_base.proofs.PairsLemmas.{ByIndex.is_some_lookup_by, Updates.updates_write}
 
 module _ {K V : Type 0} (eq : K → K → Bool) where
   -- A write of the value of a key that is present is `put`.

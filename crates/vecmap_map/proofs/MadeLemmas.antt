@@ -1,9 +1,7 @@
 -- What is in a map that is made of clones of pairs.
-use Rattle.std.specs.{Cmp.IsEquivalence, Option.option_or}
-use Rattle.std.proofs.Common.{◌≡◌, ◌∙◌, Bool, List, [], None, Option, Some, ap, arith, refl}
-use Rattle.std.proofs.{lemmas.Map.Entries.entries_from_clone, lemmas.Slice.Zip.AllZip-long}
-use Rattle.vecmap_base.specs.{Clones.{ArePairClones, IsPairClone}, Pairs.puts}
-use Rattle.vecmap_base.proofs.PairsLemmas.Parts.{makes_pairs}
+use Rattle.std.{specs.{Cmp.IsEquivalence, Option.option_or}, proofs.Common.{◌≡◌, ◌∙◌, Bool, List, [], None, Option, Some, ap, arith, refl}}
+use Rattle.std.proofs.lemmas.{Map.Entries.entries_from_clone, Slice.Zip.AllZip-long}
+use Rattle.vecmap_base.{specs.{Clones.{ArePairClones, IsPairClone}, Pairs.puts}, proofs.PairsLemmas.Parts.makes_pairs}
 use Rattle.vecmap_map.specs.MapBulk.{MakesClones}
 
 pub or_none : {X : Type 0} (a : Option X) → option_or a None ≡ a

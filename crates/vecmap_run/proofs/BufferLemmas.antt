@@ -1,6 +1,5 @@
 -- What a writer holds after the buffer in front of it is sent.
-use Rattle.std.proofs.Common.{◌∙◌, List, ℕ, [], None, Option, Some, append-nil}
-use Rattle.std.specs.Io.KnownBytes.{Appends, append_known}
+use Rattle.std.{proofs.Common.{◌∙◌, List, ℕ, [], None, Option, Some, append-nil}, specs.Io.KnownBytes.{Appends, append_known}}
 
 -- Sending moves the gathered bytes to the writer, so that what was held, with the gathered bytes, is held by the writer
 -- alone.

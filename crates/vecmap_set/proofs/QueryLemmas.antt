@@ -1,9 +1,8 @@
 -- What queries find after a change of a list, in the words of contracts.
 use Rattle.std.specs.{Borrow.Bor, List.list_any, Option.option_and_then, Prelude.{IfSome, option_copied}, Set.is_member}
-use Rattle.std.proofs.Common.{arith, ◌≡◌, ◌∙◌, ◌||◌, ℕ, Bool, true, IsTrue, List, [], ◌∷◌, None, Option, Some, ap, position, refl, slice_get, sym}
-use Rattle.std.proofs.lemmas.{Bool.cases_Bool, List.Folds.list_any-append, Option.none-some}
-use Rattle.vecmap_base.specs.Items.{add, put_item, stored_first}
-use Rattle.vecmap_base.proofs.ItemsLemmas.{Members.or_true, Recursion.put_item_cons}
+use Rattle.std.proofs.Common.{arith, ◌≡◌, ◌∙◌, ◌||◌, ℕ, Bool, true, IsTrue, List, [], ◌∷◌, None, Option, Some, ap, position, refl}
+use Rattle.std.proofs.{Common.{slice_get, sym}, lemmas.{Bool.cases_Bool, List.Folds.list_any-append, Option.none-some}}
+use Rattle.vecmap_base.{specs.Items.{add, put_item, stored_first}, proofs.ItemsLemmas.{Members.or_true, Recursion.put_item_cons}}
 use Rattle.vecmap_set.proofs.IndexLemmas.{found_item_at}
 
 module _ {T : Type 0} (test : T → Bool) where

@@ -1,12 +1,10 @@
 -- The records of reversals, swaps and moves, from the list that is left, and the permutation that a sort makes.
-use Rattle.std.specs.{Cmp.IsEquivalence, List.IsDistinct, List.Sorted.IsPermutation}
+use Rattle.std.specs.{Cmp.IsEquivalence, List.{IsDistinct, Sorted.IsPermutation}}
 use Rattle.std.proofs.Common.{◌≡◌, ◌-◌, ◌<◌, ℕ, Bool, List, arith, length, reverse, subst, swap, sym}
 use Rattle.std.proofs.lemmas.List.Sorted.{IsPermutation-reverse, IsPermutation-swap, length_permutation, list_any-IsPermutation}
-use Rattle.vecmap_base.specs.Items.{IsReorderedItems, moved}
-use Rattle.vecmap_base.proofs.EqualityLemmas.Sets.{same_items}
+use Rattle.vecmap_base.{specs.Items.{IsReorderedItems, moved}, proofs.EqualityLemmas.Sets.same_items}
 use Rattle.vecmap_base.proofs.MoveLemmas.{at_reversed, moved_item, moved_other, swapped_item, swapped_item_back, swapped_other}
-use Rattle.vecmap_set.specs.Reorders.{MovesItem, ReversesItems, SwapsItems}
-use Rattle.vecmap_set.proofs.IndexLemmas.{index_moved}
+use Rattle.vecmap_set.{specs.Reorders.{MovesItem, ReversesItems, SwapsItems}, proofs.IndexLemmas.index_moved}
 pub use Rattle.vecmap_base.proofs.DistinctLemmas.Order.{distinct_rearranged, distinct_reverse, distinct_swap}
 
 pub items_reordered : {T : Type 0} (s r : List T) → IsPermutation s r → IsReorderedItems s r

@@ -1,9 +1,8 @@
 -- The number of comparisons that a search by a test makes.
 use Rattle.std.specs.{List.list_any, Map.keys_of, Option.{option_map, option_map_or}}
-use Rattle.std.proofs.Common.{◌≡◌, ℕ, zero, suc, ◌+◌, ◌<◌, Bool, true, false, if◌then◌else◌, List, [], ◌∷◌, Some, length, position, take, refl, sym, ap, ◌∙◌, get_or, arith}
-use Rattle.std.proofs.{lemmas.Bool.cases_Bool, lemmas.Map.Entries.length-keys_of}
-use Rattle.vecmap_base.specs.{Pairs.index_by, Comparisons.search_cost_by}
-use Rattle.vecmap_base.proofs.IndexLemmas.{position_at, position_cons, position_none}
+use Rattle.std.proofs.Common.{◌≡◌, ℕ, zero, suc, ◌+◌, ◌<◌, Bool, true, false, if◌then◌else◌, List, [], ◌∷◌, Some, length, position, take}
+use Rattle.std.proofs.{Common.{refl, sym, ap, ◌∙◌, get_or, arith}, lemmas.{Bool.cases_Bool, Map.Entries.length-keys_of}}
+use Rattle.vecmap_base.{specs.{Pairs.index_by, Comparisons.search_cost_by}, proofs.IndexLemmas.{position_at, position_cons, position_none}}
 
 module _ {X : Type 0} (p : X → Bool) where
   -- The element at `j` passes, and none before it does.

@@ -1,10 +1,8 @@
 -- The elements that are in both of two lists, and those that are in only one of them.
 use Rattle.std.specs.{Prelude.{◌≡◌, IsTrue, ◌↔◌, Bool, true, false, ◌&&◌, not, List, [], ◌∷◌, ◌++◌, filter, refl}, Cmp.IsEquivalence}
-use Rattle.std.specs.{List.{IsDistinct, list_any}, Set.is_member}
-use Rattle.std.proofs.{Common.{arith, sym, ap, ◌∙◌, inl, inr, true≢false}, Math.Bool.and_comm, lemmas.Bool.{cases_Bool, or_left}}
-use Rattle.std.proofs.{lemmas.Map.Made.is_member-filter, lemmas.Map.Steps.list_any_congr}
-use Rattle.vecmap_base.specs.Items.{both, only}
-use Rattle.vecmap_base.proofs.{DistinctLemmas.Additions.distinct_append, DistinctLemmas.Removals.distinct_filter}
+use Rattle.std.{specs.{List.{IsDistinct, list_any}, Set.is_member}, proofs.Common.{arith, sym, ap, ◌∙◌, inl, inr, true≢false}}
+use Rattle.std.proofs.{Math.Bool.and_comm, lemmas.{Bool.{cases_Bool, or_left}, Map.{Made.is_member-filter, Steps.list_any_congr}}}
+use Rattle.vecmap_base.{specs.Items.{both, only}, proofs.DistinctLemmas.{Additions.distinct_append, Removals.distinct_filter}}
 
 -- No element passes a test exactly if the list of the elements that pass is empty.
 none_passes : {T : Type 0} (test : T → Bool) (xs : List T) → (list_any test xs ≡ false) ↔ (filter test xs ≡ [])

@@ -1,9 +1,8 @@
 -- What additions, in order, make of a list.
 use Rattle.std.specs.{Cmp.IsEquivalence, List.IsDistinct, Set.is_member}
-use Rattle.std.proofs.Common.{◌≡◌, ℕ, Bool, true, false, List, [], ◌∷◌, ◌++◌, if◌then◌else◌, ◌+◌, ◌<◌, length, take, ap, get_or, ◌∙◌, subst, sym}
-use Rattle.std.proofs.lemmas.{List.append-nil, List.append_assoc, List.Sums.fold_more}
-use Rattle.vecmap_base.specs.Items.{add, adds}
-use Rattle.vecmap_base.proofs.DistinctLemmas.Absent.{none_before}
+use Rattle.std.proofs.Common.{◌≡◌, ℕ, Bool, true, false, List, [], ◌∷◌, ◌++◌, if◌then◌else◌, ◌+◌, ◌<◌, length, take, ap, get_or, ◌∙◌, subst}
+use Rattle.std.proofs.{Common.sym, lemmas.List.{append-nil, append_assoc, Sums.fold_more}}
+use Rattle.vecmap_base.{specs.Items.{add, adds}, proofs.DistinctLemmas.Absent.none_before}
 
 module _ {T : Type 0} (eq : T → T → Bool) where
   pub add_absent : (s : List T) (x : T) → is_member eq s x ≡ false → add eq s x ≡ s ++ x ∷ []

@@ -1,6 +1,5 @@
 -- Which elements are among those that a closure has kept.
-use Rattle.std.specs.List.{list_any}
-use Rattle.std.proofs.Common.{◌≡◌, ◌&&◌, Bool, List, [], ◌∷◌, arith}
+use Rattle.std.{specs.List.list_any, proofs.Common.{◌≡◌, ◌&&◌, Bool, List, [], ◌∷◌, arith}}
 use Rattle.vecmap_base.specs.Kept.{Kept, ReturnsAt}
 
 module _ {F T : Type 0} (R : F → T → Bool → T → F → Type 0) (same : (f : F) (x : T) (b : Bool) (y : T) (g : F) → R f x b y g → y ≡ x) (query : T → Bool) (kept : Bool) where

@@ -1,8 +1,6 @@
 -- The index of an element in the rest of a list.
-use Rattle.std.proofs.{Common.{◌≡◌, ℕ, Bool, List, length, ap, ◌∙◌, ◌-◌, drop, is_some, take}, lemmas.List.take_rest}
-use Rattle.std.specs.List.{list_any}
-use Rattle.vecmap_base.specs.Items.{item_index}
-use Rattle.vecmap_base.proofs.IndexLemmas.{is_some_position}
+use Rattle.std.{proofs.{Common.{◌≡◌, ℕ, Bool, List, length, ap, ◌∙◌, ◌-◌, drop, is_some, take}, lemmas.List.take_rest}, specs.List.list_any}
+use Rattle.vecmap_base.{specs.Items.item_index, proofs.IndexLemmas.is_some_position}
 
 module _ {T : Type 0} (eq : T → T → Bool) where
   -- The rest of the list from `i` on has an index of `x` exactly if it has an equal element.

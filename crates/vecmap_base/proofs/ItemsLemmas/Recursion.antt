@@ -1,8 +1,6 @@
 -- The definitions on elements, for a list with one element more.
-use Rattle.std.specs.Option.{option_map}
-use Rattle.std.proofs.Common.{arith, ◌≡◌, suc, Bool, List, ◌∷◌, Some, if◌then◌else◌, slice_set}
-use Rattle.vecmap_base.specs.Items.{add, item_index, put_item}
-use Rattle.vecmap_base.proofs.IndexLemmas.{position_cons}
+use Rattle.std.{specs.Option.option_map, proofs.Common.{arith, ◌≡◌, suc, Bool, List, ◌∷◌, Some, if◌then◌else◌, slice_set}}
+use Rattle.vecmap_base.{specs.Items.{add, item_index, put_item}, proofs.IndexLemmas.position_cons}
 
 module _ {T : Type 0} (eq : T → T → Bool) where
   pub item_index_cons : (y : T) (ys : List T) (x : T) → item_index eq (y ∷ ys) x ≡ (if eq x y then Some 0 else option_map suc (item_index eq ys x))

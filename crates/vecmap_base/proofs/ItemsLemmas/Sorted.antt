@@ -1,12 +1,11 @@
 -- What a binary search says of a list: whether an item compares as equal, if comparisons rise with the items.
 use Rattle.std.specs.Prelude.{◌≡◌, ◌≤◌, ℕ, Bool, Err, List, [], ◌∷◌, IfOk, Ok, Result, Some, false, is_ok, length, slice_get, true}
-use Rattle.std.specs.{Cmp.IsTotalOrder, List.list_any, Cmp.{alike_right, IsStrictWeakOrder}, declared.cmp.Ordering.Ordering}
+use Rattle.std.specs.{Cmp.{IsTotalOrder, alike_right, IsStrictWeakOrder}, List.list_any, declared.cmp.Ordering.Ordering}
 use Rattle.std.specs.List.Sorted.{IsBinarySearchResult, IsNonDecreasingBy, IsPartitionPoint, IsSearchInRange, IsSortedByKey}
 use Rattle.std.specs.Ordering.{is_eq, is_gt, is_lt, ordering_index, ordering_reverse}
 use Rattle.std.specs.declared.cmp.Ordering.TheVariants.{Equal, Greater, Less}
 use Rattle.std.proofs.{Common.{◌∙◌, ap, arith, get_or, inl, inr, nat_lt, refl, subst, sym, true≢false}, lemmas.Option.slice_get-get_or}
-use Rattle.std.proofs.{lemmas.Bool.{cases_Bool, ltb-false, ltb-true}, lemmas.List.Folds.{list_any_at, list_any_none}}
-use Rattle.std.proofs.lemmas.List.Sorted.{sorted_far}
+use Rattle.std.proofs.lemmas.{Bool.{cases_Bool, ltb-false, ltb-true}, List.{Folds.{list_any_at, list_any_none}, Sorted.sorted_far}}
 
 module _ {X K : Type 0} (key : X → K) (cmp : K → K → Ordering) (o : IsTotalOrder cmp) where
   abbrev pub less : X → X → Bool

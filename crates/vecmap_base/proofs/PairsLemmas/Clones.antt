@@ -1,8 +1,6 @@
 -- What lookups find in a list of clones.
-use Rattle.std.specs.{Cmp.IsEquivalence, Map.IsKeyTest}
-use Rattle.std.proofs.Common.{arith, ◌≡◌, Bool, true, List, [], ◌∷◌}
-use Rattle.vecmap_base.specs.{Clones.ArePairClones, Clones.ClonesAreSame, Pairs.lookup_by}
-use Rattle.vecmap_base.proofs.PairsLemmas.Lookups.{same_answer}
+use Rattle.std.{specs.{Cmp.IsEquivalence, Map.IsKeyTest}, proofs.Common.{arith, ◌≡◌, Bool, true, List, [], ◌∷◌}}
+use Rattle.vecmap_base.{specs.{Clones.{ArePairClones, ClonesAreSame}, Pairs.lookup_by}, proofs.PairsLemmas.Lookups.same_answer}
 
 module _ {K V : Type 0} (C : K → K → Type 0) (D : V → V → Type 0) (same_values : ClonesAreSame D) where
   module _ (eq : K → K → Bool) (o : IsEquivalence eq) (equal_keys : (x y : K) → C x y → eq x y ≡ true) (test : K → Bool) (respects : IsKeyTest eq test) where

@@ -1,6 +1,5 @@
 -- The definitions on pairs, for a list with one pair more.
-use Rattle.std.specs.Option.{option_map}
-use Rattle.std.proofs.Common.{◌≡◌, suc, Bool, List, ◌∷◌, Some, if◌then◌else◌, refl}
+use Rattle.std.{specs.Option.option_map, proofs.Common.{◌≡◌, suc, Bool, List, ◌∷◌, Some, if◌then◌else◌, refl}}
 use Rattle.vecmap_base.specs.Pairs.{index_of, put}
 
 module _ {K V : Type 0} (eq : K → K → Bool) where

@@ -1,15 +1,13 @@
 -- A list of pairs in another order, in the words of contracts.
-use Rattle.std.proofs.Common.{rules}
-use Rattle.std.specs.Prelude.{◌≡◌, ◌-◌, ◌<◌, ℕ, Bool, List, Some, length, reverse, suc, swap}
-use Rattle.std.specs.{Cmp.IsEquivalence, List.Sorted.IsPermutation, Map.IsKeyTest, Map.keys_of}
-use Rattle.std.proofs.{Common.{◌∙◌, ap, arith, subst, sym}, lemmas.Option.slice_get_within}
+use Rattle.std.proofs.{Common.{rules, ◌∙◌, ap, arith, subst, sym}, lemmas.Option.slice_get_within}
 use Rattle.std.proofs.lemmas.List.Sorted.{IsPermutation-reverse, IsPermutation-swap, length_permutation}
-use Rattle.vecmap_base.specs.{Indices.MovesIndex, Items.moved, Lookups.IsReordered, Reorders.MovesPair, Reorders.ReversesPairs, Reorders.SwapsPairs}
-use Rattle.vecmap_base.specs.Pairs.{HasDistinctKeys, index_by}
-use Rattle.vecmap_base.proofs.{EqualityLemmas.Maps.equal_rearranged, PairsLemmas.AtIndices.{match_at, moves_index, stays_in_front}}
+use Rattle.std.specs.{Prelude.{◌≡◌, ◌-◌, ◌<◌, ℕ, Bool, List, Some, length, reverse, suc, swap}, Cmp.IsEquivalence}
+use Rattle.std.specs.{List.Sorted.IsPermutation, Map.{IsKeyTest, keys_of}}
+use Rattle.vecmap_base.specs.{Indices.MovesIndex, Items.moved, Lookups.IsReordered, Reorders.{MovesPair, ReversesPairs, SwapsPairs}}
+use Rattle.vecmap_base.{specs.Pairs.{HasDistinctKeys, index_by}, proofs.EqualityLemmas.Maps.equal_rearranged}
+use Rattle.vecmap_base.proofs.PairsLemmas.AtIndices.{match_at, moves_index, stays_in_front}
 use Rattle.vecmap_base.proofs.MoveLemmas.{at_reversed, moved_item, moved_other, swapped_item, swapped_item_back, swapped_other}
-use Rattle.vecmap_base.proofs.{PairsLemmas.Keys.keys_of_reverse, PairsLemmas.Parts.matches_rearranged}
-use Rattle.vecmap_base.proofs.PairsLemmas.Updates.{lookups_rearranged}
+use Rattle.vecmap_base.proofs.PairsLemmas.{Keys.keys_of_reverse, Parts.matches_rearranged, Updates.lookups_rearranged}
 
 module _ {K V : Type 0} (l m : List (K × V)) where
   pub reordered : IsPermutation l m → IsReordered l m

@@ -1,6 +1,11 @@
 -- Shared steps of the calls that return a mutable reference to a value, in a tuple in an `Option`. The idea: what is
 -- owned of a tuple or an `Option` is split into what is owned of its parts.
-use Rattle.std.proofs.Common.{◌≡◌, refl, ap, sym, ◌∙◌, ℕ, List, [], ◌∷◌, ◌++◌, Option, None, Some, slice_get, slice_set, Bool, w64, ◌<◌, ◌^◌}
+use Rattle.std.proofs.Common.{◌≡◌, refl, ap, sym, ◌∙◌, ℕ, List, [], ◌∷◌, ◌++◌, Option, None, Some, slice_get, slice_set, Bool, w64, ◌<◌}
+use Rattle.std.{proofs.Common.◌^◌, specs.{Borrow.Bor, Option.option_map_or}}
+use Rattle.vecmap_base.{specs.Pairs.{index_by, with_value}, proofs.PairsLemmas.ByIndex.set_value_by_index}
+use Rattle.vecmap_map.specs.{Contents.{Contents, with_entries, with_value_at, with_value_by}, contracts.VecMap.the_row}
+use Rattle.vecmap_map.specs.Lends.{lends_beside_key, lends_beside_index, lends_value, lends_value_at, lends_pair_if_at}
+use Rattle.std.specs.contracts.option.Option as OP
 use seplogic.Ra.Ura.{Ura}
 use mir.Syntax.{Body, Lifetime}
 use mir.Val.{Val, vint, vptr, vstruct, vcons, vnil, of_list}
@@ -24,12 +29,6 @@ use denote.Builtin.{usize}
 use denote.Plain.{uint_Makes, uint_vals}
 use denote.Follow.{follows, follows_by, follows_then}
 use denote.Struct.Tuple.{Tuple}
-use Rattle.std.specs.{Borrow.Bor, Option.option_map_or}
-use Rattle.std.specs.contracts.option.Option as OP
-use Rattle.vecmap_base.specs.Pairs.{index_by, with_value}
-use Rattle.vecmap_base.proofs.PairsLemmas.ByIndex.{set_value_by_index}
-use Rattle.vecmap_map.specs.{Contents.{Contents, with_entries, with_value_at, with_value_by}, contracts.VecMap.the_row}
-use Rattle.vecmap_map.specs.Lends.{lends_beside_key, lends_beside_index, lends_value, lends_value_at, lends_pair_if_at}
 
 module _ {M : Type 1} (𝓤 : Ura M) (𝓛 : Logic 𝓤) where
   open 𝓛 use {H}

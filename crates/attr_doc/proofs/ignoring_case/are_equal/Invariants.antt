@@ -1,5 +1,4 @@
-use Rattle.std.proofs.Common.{◌≡◌, ◌*◌, drop}
-use Rattle.std.specs.Str.{str_eq_ignore_ascii_case}
+use Rattle.std.{proofs.Common.{◌≡◌, ◌*◌, drop}, specs.Str.str_eq_ignore_ascii_case}
 use Rattle.attr_doc.proofs.ignoring_case.are_equal.Given as goal
 
 abbrev pub invariant-loop-block : goal.invariant-loop-block

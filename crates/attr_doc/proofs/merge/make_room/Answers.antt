@@ -1,8 +1,6 @@
 -- The loop keeps that no section changes, and that there is spare capacity for the sections of `others` so far.
-use Rattle.std.proofs.{Common.{◌∙◌, arith, length, subst, take}, lemmas.List.take_all, lemmas.List.Elements.{All-more, All-weaker}}
-use Rattle.std.specs.List.{All}
-use Rattle.attr_doc.specs.Documents.{HasRoomAt, IsRoomFor}
-use Rattle.attr_doc.proofs.RoomLemmas.{same_length}
+use Rattle.std.{proofs.{Common.{◌∙◌, arith, length, subst, take}, lemmas.List.{take_all, Elements.{All-more, All-weaker}}}, specs.List.All}
+use Rattle.attr_doc.{specs.Documents.{HasRoomAt, IsRoomFor}, proofs.RoomLemmas.same_length}
 use Rattle.attr_doc.proofs.merge.make_room.Goals as goal
 
 pub loop-other-preserved : goal.loop-other-preserved

@@ -1,5 +1,4 @@
-use Rattle.std.proofs.Common.{◌≡◌, length, take}
-use Rattle.std.specs.List.{All}
+use Rattle.std.{proofs.Common.{◌≡◌, length, take}, specs.List.All}
 use Rattle.vecmap.specs.Contents.{HasRoom}
 use Rattle.attr_doc.specs.Documents.{IsRoomFor, sections_of}
 use Rattle.attr_doc.proofs.merge.make_room.Given as goal

@@ -1,5 +1,4 @@
-use Rattle.std.proofs.Common.{◌≡◌, ◌++◌, length}
-use Rattle.std.specs.{List.All, Vec.Iter.into_iter_items, Str.str_eq_ignore_ascii_case}
+use Rattle.std.{proofs.Common.{◌≡◌, ◌++◌, length}, specs.{List.All, Vec.Iter.into_iter_items, Str.str_eq_ignore_ascii_case}}
 use Rattle.vecmap.specs.{Contents.HasRoom, Pairs.HasDistinctKeys}
 use Rattle.attr_doc.specs.Documents.{IsRoomFor, merge_of, sections_of}
 use Rattle.attr_doc.proofs.merge.move_all.Given as goal

@@ -1,5 +1,4 @@
-use Rattle.std.proofs.{Common.{arith, ap, length, refl, sym}, lemmas.Map.length-set_value}
-use Rattle.std.specs.Str.{str_eq_ignore_ascii_case}
+use Rattle.std.{proofs.{Common.{arith, ap, length, refl, sym}, lemmas.Map.length-set_value}, specs.Str.str_eq_ignore_ascii_case}
 use Rattle.vecmap_laws.proofs.AfterPuts.{length_put}
 use Rattle.attr_doc.proofs.{ChangeLemmas.{at_ok, section_added, section_joined}, RoomLemmas.{other_values_stay, others_after}}
 use Rattle.attr_doc.proofs.merge.move_section.Goals as goal
@@ -8,7 +7,7 @@ pub unwrap-requires : goal.unwrap-requires
 unwrap-requires c = c.append.ensures.succeeds (c.requires.room_in c.in-Some.existing.now (sym c.in-Some.ensures.value))
 
 pub returns-in-Some-clause-sections : goal.returns-in-Some-clause-sections
-returns-in-Some-clause-sections c = section_joined c.args.sections.now c.args.name c.in-Some.existing.now c.append.new.self c.in-Some.ensures.value (c.in-Some.ensures.found.0 refl) c.args.texts.entries (at_ok c.append.result c.unwrap.result c.unwrap.ensures c.append.ensures.joins).entries
+returns-in-Some-clause-sections c = section_joined c.args.sections.now c.args.name c.in-Some.existing.now c.append.new.self c.in-Some.ensures.value (c.in-Some.ensures.found.0 refl) c.args.texts.entries (at_ok c.append.result c.unwrap.result c.unwrap.ensures c.append.ensures.entries)
 
 pub returns-in-Some-clause-len : goal.returns-in-Some-clause-len
 returns-in-Some-clause-len c =

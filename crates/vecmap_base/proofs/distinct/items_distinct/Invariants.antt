@@ -1,5 +1,4 @@
-use Rattle.std.proofs.Common.{◌↔◌, drop}
-use Rattle.std.specs.List.{IsDistinct}
+use Rattle.std.{proofs.Common.{◌↔◌, drop}, specs.List.IsDistinct}
 use Rattle.vecmap_base.proofs.distinct.items_distinct.Given as goal
 
 abbrev pub invariant-loop-i : goal.invariant-loop-i

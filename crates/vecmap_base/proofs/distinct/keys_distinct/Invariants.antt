@@ -1,5 +1,4 @@
-use Rattle.std.proofs.Common.{◌↔◌, drop}
-use Rattle.std.specs.{List.IsDistinct, Map.keys_of}
+use Rattle.std.{proofs.Common.{◌↔◌, drop}, specs.{List.IsDistinct, Map.keys_of}}
 use Rattle.vecmap_base.proofs.distinct.keys_distinct.Given as goal
 
 abbrev pub invariant-loop-i : goal.invariant-loop-i

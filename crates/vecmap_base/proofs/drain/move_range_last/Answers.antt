@@ -1,5 +1,4 @@
-use Rattle.std.specs.Prelude.{◌-◌}
-use Rattle.std.proofs.Common.{arith}
+use Rattle.std.{specs.Prelude.◌-◌, proofs.Common.arith}
 use Rattle.vecmap_base.proofs.DrainLemmas.{moved_by_reversals}
 use Rattle.vecmap_base.proofs.drain.move_range_last.Goals as goal
 

@@ -1,5 +1,4 @@
-use Rattle.std.specs.Set.{is_member}
-use Rattle.std.proofs.{Common.{◌≡◌, ◌∙◌, ap, arith, false, sym}, lemmas.List.take_all}
+use Rattle.std.{specs.Set.is_member, proofs.{Common.{◌≡◌, ◌∙◌, ap, arith, false, sym}, lemmas.List.take_all}}
 use Rattle.vecmap_base.proofs.DuplicatesLemmas.Comparisons.{search_cost_absent, search_cost_at}
 use Rattle.vecmap_base.proofs.duplicates.contains_counted.Goals as goal
 

@@ -1,5 +1,4 @@
-use Rattle.std.specs.Set.{is_member}
-use Rattle.std.proofs.Common.{◌≡◌, ◌+◌, false, take}
+use Rattle.std.{specs.Set.is_member, proofs.Common.{◌≡◌, ◌+◌, false, take}}
 use Rattle.vecmap_base.proofs.duplicates.contains_counted.Given as goal
 
 abbrev pub invariant-loop-stored : goal.invariant-loop-stored

@@ -1,13 +1,12 @@
 -- After `i` items the front is what their additions leave, and the rest is unchanged. A new item is swapped to the end
 -- of the front.
-use Rattle.std.specs.Set.{is_member}
-use Rattle.std.proofs.Common.{◌≡◌, ◌+◌, ◌<◌, take, length, get_or, [], ◌∷◌, ◌++◌, sym, ap, ◌∙◌, arith}
-use Rattle.std.proofs.lemmas.{List.length_push, List.length-take, List.take_all, List.Sorted.IsPermutation-trans}
-use Rattle.vecmap_base.specs.{Comparisons.comparisons, Comparisons.search_cost, Items.adds}
-use Rattle.vecmap_base.proofs.DuplicatesLemmas.{Comparisons.comparisons_below, Comparisons.comparisons_more, Gather.front_swapped, Gather.rest_more}
+use Rattle.std.{specs.Set.is_member, proofs.Common.{◌≡◌, ◌+◌, ◌<◌, take, length, get_or, [], ◌∷◌, ◌++◌, sym, ap, ◌∙◌, arith}}
+use Rattle.std.proofs.lemmas.List.{length_push, length-take, take_all, Sorted.IsPermutation-trans}
+use Rattle.vecmap_base.specs.{Comparisons.{comparisons, search_cost}, Items.adds}
+use Rattle.vecmap_base.proofs.DuplicatesLemmas.{Comparisons.{comparisons_below, comparisons_more}, Gather.{front_swapped, rest_more}}
 use Rattle.vecmap_base.proofs.ItemsLemmas.Additions.{adds_more, add_absent, add_present}
-use Rattle.vecmap_base.proofs.duplicates.gather_items.Goals as goal
 use Rattle.vecmap_base.proofs.duplicates.gather_items.Goals.{else-not-contains_counted, then-not-contains_counted}
+use Rattle.vecmap_base.proofs.duplicates.gather_items.Goals as goal
 
 pub contains_counted-requires : goal.contains_counted-requires
 contains_counted-requires g c = record {

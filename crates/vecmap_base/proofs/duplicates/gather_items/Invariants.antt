@@ -1,5 +1,4 @@
-use Rattle.std.proofs.Common.{◌≡◌, ◌+◌, ◌≤◌, take, drop, [], length}
-use Rattle.std.specs.List.Sorted.{IsPermutation}
+use Rattle.std.{proofs.Common.{◌≡◌, ◌+◌, ◌≤◌, take, drop, [], length}, specs.List.Sorted.IsPermutation}
 use Rattle.vecmap_base.specs.{Comparisons.comparisons, Items.adds}
 use Rattle.vecmap_base.proofs.duplicates.gather_items.Given as goal
 

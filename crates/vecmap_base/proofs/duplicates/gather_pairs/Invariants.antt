@@ -1,5 +1,4 @@
-use Rattle.std.proofs.Common.{◌≡◌, ◌+◌, ◌≤◌, take, drop, [], length}
-use Rattle.std.specs.{List.Sorted.IsPermutation, Map.keys_of, Map.values_of}
+use Rattle.std.{proofs.Common.{◌≡◌, ◌+◌, ◌≤◌, take, drop, [], length}, specs.{List.Sorted.IsPermutation, Map.{keys_of, values_of}}}
 use Rattle.vecmap_base.specs.{Comparisons.comparisons, Pairs.puts}
 use Rattle.vecmap_base.proofs.duplicates.gather_pairs.Given as goal
 

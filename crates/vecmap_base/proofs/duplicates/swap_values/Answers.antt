@@ -1,5 +1,4 @@
-use Rattle.std.proofs.Common.{◌<◌, length, swap, sym, ap, ◌∙◌, arith}
-use Rattle.std.specs.Map.{keys_of, values_of}
+use Rattle.std.{proofs.Common.{◌<◌, length, swap, sym, ap, ◌∙◌, arith}, specs.Map.{keys_of, values_of}}
 use Rattle.vecmap_base.proofs.DuplicatesLemmas.Gather.{keys_of_swapped, values_of_swapped}
 use Rattle.vecmap_base.proofs.duplicates.swap_values.Goals as goal
 

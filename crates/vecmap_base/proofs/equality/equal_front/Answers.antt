@@ -1,6 +1,5 @@
 use Rattle.std.proofs.{Common.{◌≡◌, ◌+◌, ◌<◌, ◌∷◌, [], ◌++◌, ap, arith, length, subst, sym, take, true, ◌∙◌}, lemmas.List.take_more}
-use Rattle.std.specs.List.{AllZip}
-use Rattle.std.proofs.lemmas.List.Elements.{all_zip_more}
+use Rattle.std.{proofs.lemmas.List.Elements.all_zip_more, specs.List.AllZip}
 use Rattle.vecmap_base.specs.Equality.{same_pair}
 use Rattle.vecmap_base.proofs.equality.equal_front.Goals as goal
 

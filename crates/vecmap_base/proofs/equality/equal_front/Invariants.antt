@@ -1,5 +1,4 @@
-use Rattle.std.proofs.Common.{◌≡◌, take, true}
-use Rattle.std.specs.List.{AllZip}
+use Rattle.std.{proofs.Common.{◌≡◌, take, true}, specs.List.AllZip}
 use Rattle.vecmap_base.specs.Equality.{same_pair}
 use Rattle.vecmap_base.proofs.equality.equal_front.Given as goal
 

@@ -1,5 +1,4 @@
-use Rattle.std.proofs.Common.{◌≡◌, ◌+◌, false, take}
-use Rattle.std.specs.List.{list_any}
+use Rattle.std.{proofs.Common.{◌≡◌, ◌+◌, false, take}, specs.List.list_any}
 use Rattle.vecmap_base.proofs.lookup.is_any_by_loop.Given as goal
 
 abbrev pub invariant-loop-item : goal.invariant-loop-item

@@ -1,11 +1,10 @@
 -- The loop keeps that the first `i` pairs of `a` are matched with the marked pairs of `b`. An unmatched pair has
 -- unequal counts.
 use Rattle.std.proofs.Common.{◌≡◌, ◌+◌, ◌<◌, arith, drop, false, get_or, length, length-set, refl, subst, sym, true, ◌∙◌}
-use Rattle.std.specs.List.{list_any}
-use Rattle.std.proofs.lemmas.List.{take_rest}
-use Rattle.vecmap_base.specs.Equality.{free, same_pair}
-use Rattle.vecmap_base.proofs.EqualityLemmas.Partial.{same_pair_partial}
-use Rattle.vecmap_base.proofs.MatchingLemmas.{all_matched_partial, first_matched_partial, first_unmatched_partial, one_matched_partial, unmatched_partial}
+use Rattle.std.{proofs.lemmas.List.take_rest, specs.List.list_any}
+use Rattle.vecmap_base.{specs.Equality.{free, same_pair}, proofs.EqualityLemmas.Partial.same_pair_partial}
+use Rattle.vecmap_base.proofs.MatchingLemmas.{all_matched_partial, first_matched_partial, first_unmatched_partial, one_matched_partial}
+use Rattle.vecmap_base.proofs.MatchingLemmas.{unmatched_partial}
 use Rattle.vecmap_base.proofs.matching.pairs_match.Goals as goal
 
 pub returns-in_default : goal.returns-in_default

@@ -1,6 +1,5 @@
 use Rattle.std.proofs.Common.{◌≤◌, drop, length}
-use Rattle.vecmap_base.specs.Equality.{same_pair}
-use Rattle.vecmap_base.proofs.{EqualityLemmas.Partial.same_pair_partial, MatchingLemmas.MatchedPartial}
+use Rattle.vecmap_base.{specs.Equality.same_pair, proofs.{EqualityLemmas.Partial.same_pair_partial, MatchingLemmas.MatchedPartial}}
 use Rattle.vecmap_base.proofs.matching.pairs_match.Given as goal
 
 abbrev pub invariant-loop-i : goal.invariant-loop-i

@@ -1,5 +1,4 @@
-use Rattle.std.specs.List.Sorted.{IsPermutation}
-use Rattle.std.proofs.Common.{◌≡◌, ◌∙◌, ap, arith, get_or, insert, length, remove, subst, sym, take_at}
+use Rattle.std.{specs.List.Sorted.IsPermutation, proofs.Common.{◌≡◌, ◌∙◌, ap, arith, get_or, insert, length, remove, subst, sym, take_at}}
 use Rattle.vecmap_base.proofs.MoveLemmas.{moved_is, moved_rearranged}
 use Rattle.vecmap_base.proofs.moving.move_to.Goals as goal
 

@@ -1,6 +1,5 @@
 -- The loop keeps `KeptSoFar` with all items kept: each item stays where it is, as it was written.
-use Rattle.std.specs.Prelude.{◌<◌, length}
-use Rattle.std.proofs.Common.{arith}
+use Rattle.std.{specs.Prelude.{◌<◌, length}, proofs.Common.arith}
 use Rattle.vecmap_base.proofs.KeptLemmas.{callable_here, kept_here, kept_not}
 use Rattle.vecmap_base.proofs.retain.find_rejected.Goals as goal
 

@@ -1,6 +1,5 @@
 -- The loop keeps `KeptSoFar`: the front has the kept items, as they were written. Each call extends it by one item.
-use Rattle.std.specs.Prelude.{◌≡◌, ◌<◌, ◌≤◌, length}
-use Rattle.std.proofs.{Common.{arith, get_or, ◌∙◌}, lemmas.List.length-set}
+use Rattle.std.{specs.Prelude.{◌≡◌, ◌<◌, ◌≤◌, length}, proofs.{Common.{arith, get_or, ◌∙◌}, lemmas.List.length-set}}
 use Rattle.vecmap_base.proofs.{KeptLemmas.{callable_here, kept_all, kept_not, kept_one}, retain.retain.Goals.{else-keeps, then-keeps}}
 use Rattle.vecmap_base.proofs.retain.retain.Goals as goal
 

@@ -1,5 +1,4 @@
-use Rattle.vecmap_base.specs.Asked.{CallsAtPair}
-use Rattle.vecmap_base.proofs.PairsLemmas.Retained.{retains_pairs}
+use Rattle.vecmap_base.{specs.Asked.CallsAtPair, proofs.PairsLemmas.Retained.retains_pairs}
 use Rattle.vecmap_base.proofs.retain.retain_pairs.Goals as goal
 
 pub returns-clause-selection : goal.returns-clause-selection

@@ -1,10 +1,9 @@
 -- The loop keeps `KeptSoFar`: each pair stays where it is, as it was written.
-use Rattle.std.proofs.Common.{arith, get_or}
-use Rattle.std.specs.Prelude.{◌+◌, ◌≤◌, Ok, drop, length, take}
+use Rattle.std.{proofs.Common.{arith, get_or}, specs.Prelude.{◌+◌, ◌≤◌, Ok, drop, length, take}}
 use Rattle.vecmap_base.proofs.{PairsLemmas.AtIndices.keeps_indices, UpdatedLemmas.{keys_stopped, updates_pairs}}
 use Rattle.vecmap_base.proofs.UpdatedSteps.{all_updated, callable_next, one_updated, split, written_split}
-use Rattle.vecmap_base.proofs.try_update.try_update_pairs.Goals as goal
 use Rattle.vecmap_base.specs.Updated.{CallableAtValue, WritesValueAt}
+use Rattle.vecmap_base.proofs.try_update.try_update_pairs.Goals as goal
 
 pub try_value-requires : goal.try_value-requires
 try_value-requires g c =

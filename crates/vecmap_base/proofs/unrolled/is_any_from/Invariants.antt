@@ -1,5 +1,4 @@
-use Rattle.std.proofs.Common.{◌≡◌, ◌+◌, false, take}
-use Rattle.std.specs.List.{list_any}
+use Rattle.std.{proofs.Common.{◌≡◌, ◌+◌, false, take}, specs.List.list_any}
 use Rattle.vecmap_base.proofs.unrolled.is_any_from.Given as goal
 
 abbrev pub invariant-loop-index : goal.invariant-loop-index

@@ -1,9 +1,8 @@
 -- The loop keeps `KeptSoFar`: each pair stays where it is, as it was written.
-use Rattle.std.proofs.Common.{arith}
-use Rattle.std.specs.Prelude.{◌≤◌, length}
+use Rattle.std.{proofs.Common.arith, specs.Prelude.{◌≤◌, length}}
 use Rattle.vecmap_base.proofs.{UpdatedLemmas.updates_pairs, UpdatedSteps.{all_updated, callable_next, one_updated}}
-use Rattle.vecmap_base.proofs.update.update_pairs.Goals as goal
 use Rattle.vecmap_base.specs.Updated.{CallableAtValue, WritesValueAt}
+use Rattle.vecmap_base.proofs.update.update_pairs.Goals as goal
 
 pub write_value-requires : goal.write_value-requires
 write_value-requires g c =

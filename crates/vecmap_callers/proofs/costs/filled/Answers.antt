@@ -1,5 +1,4 @@
-use Rattle.std.proofs.{Common.{ap, arith, nat_eq, ◌+◌, ◌∙◌}, lemmas.List.take_all}
-use Rattle.std.specs.Map.{keys_of}
+use Rattle.std.{proofs.{Common.{ap, arith, nat_eq, ◌+◌, ◌∙◌}, lemmas.List.take_all}, specs.Map.keys_of}
 use Rattle.vecmap.specs.Comparisons.{comparisons}
 use Rattle.vecmap_base.proofs.{PairsLemmas.Puts.puts_more, DuplicatesLemmas.Comparisons.{key_comparisons_at_most, key_comparisons_more}}
 use Rattle.vecmap_callers.proofs.costs.filled.Goals as goal

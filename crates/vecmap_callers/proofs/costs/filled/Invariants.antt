@@ -1,5 +1,4 @@
-use Rattle.std.proofs.Common.{◌≡◌, ◌+◌, [], nat_eq, take}
-use Rattle.std.specs.Map.{keys_of}
+use Rattle.std.{proofs.Common.{◌≡◌, ◌+◌, [], nat_eq, take}, specs.Map.keys_of}
 use Rattle.vecmap.specs.{Comparisons.comparisons, Pairs.puts}
 use Rattle.vecmap_callers.proofs.costs.filled.Given as goal
 

@@ -1,5 +1,4 @@
-use Rattle.std.proofs.{Common.{◌<◌, subst}, lemmas.List.Elements.All-tail}
-use Rattle.std.specs.{List.All, Map.values_of}
+use Rattle.std.{proofs.{Common.{◌<◌, subst}, lemmas.List.Elements.All-tail}, specs.{List.All, Map.values_of}}
 use Rattle.vecmap_callers.proofs.iteration.add_one.Goals as goal
 
 pub loop-value-preserved : goal.loop-value-preserved

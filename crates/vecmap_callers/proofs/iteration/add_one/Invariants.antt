@@ -1,5 +1,4 @@
-use Rattle.std.proofs.Common.{◌<◌}
-use Rattle.std.specs.{List.All, Map.values_of}
+use Rattle.std.{proofs.Common.◌<◌, specs.{List.All, Map.values_of}}
 use Rattle.vecmap.specs.Iterators.{iter_mut_rest}
 use Rattle.vecmap_callers.proofs.iteration.add_one.Given as goal
 

@@ -1,7 +1,6 @@
 use Rattle.std.proofs.Common.{[], ◌∷◌, refl}
 use Rattle.vecmap.specs.Iterators.{TakesFirstOf, TakesLastOf, deref_mut, values_mut_rest}
-use Rattle.vecmap_laws.specs.Pulls.{back, front}
-use Rattle.vecmap_laws.proofs.WalkLemmas.{pulls_by}
+use Rattle.vecmap_laws.{specs.Pulls.{back, front}, proofs.WalkLemmas.pulls_by}
 use Rattle.vecmap_callers.proofs.iteration.both_ends.Goals as goal
 
 pub returns-clause-pulls : goal.returns-clause-pulls

@@ -1,5 +1,4 @@
-use Rattle.std.proofs.Common.{◌≤◌}
-use Rattle.std.specs.List.{All}
+use Rattle.std.{proofs.Common.◌≤◌, specs.List.All}
 use Rattle.vecmap_callers.proofs.iteration.greatest.Given as goal
 
 abbrev pub invariant-loop-score : goal.invariant-loop-score

@@ -1,5 +1,4 @@
-use Rattle.std.proofs.Common.{◌≡◌, ◌+◌, sum}
-use Rattle.std.specs.Map.{values_of}
+use Rattle.std.{proofs.Common.{◌≡◌, ◌+◌, sum}, specs.Map.values_of}
 use Rattle.vecmap_callers.proofs.iteration.sum_of_values.Given as goal
 
 abbrev pub invariant-loop-key : goal.invariant-loop-key

@@ -1,5 +1,4 @@
-use Rattle.std.specs.Prelude.{nat_eq}
-use Rattle.std.proofs.{Common.{ap, map-id, rules, sym, ◌∙◌}, lemmas.Iterator.Adapters.fact_from_extend}
+use Rattle.std.{specs.Prelude.nat_eq, proofs.{Common.{ap, map-id, rules, sym, ◌∙◌}, lemmas.Iterator.Adapters.fact_from_extend}}
 use Rattle.std.proofs.lemmas.Iterator.Consumers.{YieldsList-from_rest}
 use Rattle.vecmap.specs.Pairs.{puts}
 use Rattle.vecmap_callers.proofs.traits.put_map.Goals as goal

@@ -1,6 +1,5 @@
-use Rattle.std.specs.Prelude.{◌≡◌, ◌/◌, [], nat_eq, nat_lt}
-use Rattle.std.proofs.{Common.{rules, tests}, lemmas.Iterator.YieldsList-from_map, lemmas.Iterator.Adapters.fact_from_collect}
-use Rattle.std.proofs.lemmas.Iterator.Consumers.{YieldsList-at, YieldsList-from_filter, YieldsList-from_rest}
+use Rattle.std.{specs.Prelude.{◌≡◌, ◌/◌, [], nat_eq, nat_lt}, proofs.{Common.{rules, tests}, lemmas.Iterator.YieldsList-from_map}}
+use Rattle.std.proofs.lemmas.Iterator.{Adapters.fact_from_collect, Consumers.{YieldsList-at, YieldsList-from_filter, YieldsList-from_rest}}
 use Rattle.vecmap.specs.Pairs.{puts}
 use Rattle.vecmap_callers.proofs.traits.thirds.Goals as goal
 

@@ -1,5 +1,4 @@
-use Rattle.std.proofs.Common.{◌≡◌}
-use Rattle.std.specs.Map.{keys_of}
+use Rattle.std.{proofs.Common.◌≡◌, specs.Map.keys_of}
 use Rattle.vecmap_callers.proofs.updating.push_in_slice.Given as goal
 
 abbrev pub invariant-loop-key : goal.invariant-loop-key

@@ -1,5 +1,4 @@
-use Rattle.std.specs.Prelude.{[], ◌≡◌, ◌∷◌, ◌++◌, refl}
-use Rattle.std.proofs.{Common.rules, lemmas.Result.{IfErr-weaker, on_ok_weaker}}
+use Rattle.std.{specs.Prelude.{[], ◌≡◌, ◌∷◌, ◌++◌, refl}, proofs.{Common.rules, lemmas.Result.{IfErr-weaker, on_ok_weaker}}}
 use Rattle.vecmap_laws.proofs.UpdatedLemmas.{stopped_while, viewed_while}
 use Rattle.vecmap_callers.proofs.updating.push_to_each.Goals as goal
 

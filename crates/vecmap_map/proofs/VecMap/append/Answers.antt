@@ -1,6 +1,5 @@
 use Rattle.std.proofs.{lemmas.Grind.common_steps, Common.{arith, subst, sym, ◌∙◌}}
-use Rattle.vecmap_base.specs.Pairs.{HasDistinctKeys}
-use Rattle.vecmap_base.proofs.PairsLemmas.Parts.{joins_of_puts, puts_apart}
+use Rattle.vecmap_base.{specs.Pairs.HasDistinctKeys, proofs.PairsLemmas.Parts.{joins_of_puts, puts_apart}}
 use Rattle.vecmap_map.proofs.VecMap.append.Goals as goal
 
 pub returns-clause-entries : goal.returns-clause-entries

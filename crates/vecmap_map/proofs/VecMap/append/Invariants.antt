@@ -1,5 +1,4 @@
-use Rattle.std.proofs.Common.{◌≡◌, ◌+◌, ◌≤◌, ◌++◌, length}
-use Rattle.std.specs.Vec.Iter.{drain_items}
+use Rattle.std.{proofs.Common.{◌≡◌, ◌+◌, ◌≤◌, ◌++◌, length}, specs.Vec.Iter.drain_items}
 use Rattle.vecmap_base.specs.Pairs.{puts}
 use Rattle.vecmap_map.proofs.VecMap.append.Given as goal
 

@@ -1,5 +1,4 @@
-use Rattle.std.proofs.Common.{◌≡◌, ◌+◌, ◌≤◌, length}
-use Rattle.std.specs.Map.Iter.{deref}
+use Rattle.std.{proofs.Common.{◌≡◌, ◌+◌, ◌≤◌, length}, specs.Map.Iter.deref}
 use Rattle.vecmap_map.specs.MapBulk.{PutsClones}
 use Rattle.vecmap_map.proofs.VecMap.extend_pairs.Given as goal
 

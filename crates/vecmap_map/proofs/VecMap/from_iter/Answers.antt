@@ -1,6 +1,5 @@
 use Rattle.std.proofs.Common.{[], ap, rules, ◌∙◌}
-use Rattle.vecmap_base.specs.Pairs.{puts}
-use Rattle.vecmap_base.proofs.PairsLemmas.Parts.{makes_pairs}
+use Rattle.vecmap_base.{specs.Pairs.puts, proofs.PairsLemmas.Parts.makes_pairs}
 use Rattle.vecmap_map.proofs.VecMap.from_iter.Goals as goal
 
 pub returns-clause-entries : goal.returns-clause-entries

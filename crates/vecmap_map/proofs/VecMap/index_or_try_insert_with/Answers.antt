@@ -1,7 +1,6 @@
 -- The idea: the made pair is at the index after the others, as no key before it matches the query.
 use Rattle.std.proofs.Common.{◌≡◌, ◌∙◌, None, Some, ap, inr, subst, sym}
-use Rattle.vecmap_base.specs.Pairs.{index_by}
-use Rattle.vecmap_base.proofs.PairsLemmas.ByIndex.{index_by_appended}
+use Rattle.vecmap_base.{specs.Pairs.index_by, proofs.PairsLemmas.ByIndex.index_by_appended}
 use Rattle.vecmap_map.proofs.ContentsLemmas.{appends_made, finds_match}
 use Rattle.vecmap_map.proofs.VecMap.index_or_try_insert_with.Goals as goal
 

@@ -1,5 +1,4 @@
-use Rattle.std.specs.List.Sorted.{IsPermutation}
-use Rattle.std.proofs.Common.{rules, subst}
+use Rattle.std.{specs.List.Sorted.IsPermutation, proofs.Common.{rules, subst}}
 use Rattle.vecmap_base.proofs.PairsLemmas.Reordered.{moves_pair}
 use Rattle.vecmap_map.proofs.VecMap.move_index.Goals as goal
 

@@ -1,6 +1,5 @@
 -- The vector has as many pairs as before.
-use Rattle.std.proofs.{Common.arith, lemmas.List.take_at}
-use Rattle.std.specs.Prelude.{◌≡◌, drop, length}
+use Rattle.std.{proofs.{Common.arith, lemmas.List.take_at}, specs.Prelude.{◌≡◌, drop, length}}
 use Rattle.vecmap_map.proofs.VecMap.update_values.Goals as goal
 
 pub returns-clause-update : goal.returns-clause-update

@@ -1,7 +1,6 @@
 use Rattle.std.proofs.{Common.{◌≡◌, ◌∙◌, [], ap, rules}, KnownBytes.Appends-of_writes, lemmas.Result.on_ok_weaker}
 use Rattle.std.specs.Io.KnownBytes.{append_known}
-use Rattle.vecmap_run.specs.Buffer.{buffer_bytes}
-use Rattle.vecmap_run.proofs.BufferLemmas.{Appends-sent}
+use Rattle.vecmap_run.{specs.Buffer.buffer_bytes, proofs.BufferLemmas.Appends-sent}
 use Rattle.vecmap_run.proofs.serve.print.Goals as goal
 
 pub returns : goal.returns

@@ -1,5 +1,4 @@
-use Rattle.std.proofs.Common.{◌≡◌, ◌+◌, ◌≤◌, length}
-use Rattle.std.specs.List.{IsDistinct}
+use Rattle.std.{proofs.Common.{◌≡◌, ◌+◌, ◌≤◌, length}, specs.List.IsDistinct}
 use Rattle.vecmap_base.specs.Items.{adds}
 use Rattle.vecmap_set.proofs.VecSet.extend.Given as goal
 

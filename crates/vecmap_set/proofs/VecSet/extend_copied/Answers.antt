@@ -1,5 +1,4 @@
-use Rattle.std.proofs.{Common.{◌≡◌, arith, map, rules}, lemmas.{Grind.common_steps, Result.err_from_is_err_and}}
-use Rattle.std.specs.Map.Iter.{deref}
+use Rattle.std.{proofs.{Common.{◌≡◌, arith, map, rules}, lemmas.{Grind.common_steps, Result.err_from_is_err_and}}, specs.Map.Iter.deref}
 use Rattle.vecmap_set.proofs.MemberLemmas.{adds_items}
 use Rattle.vecmap_set.proofs.VecSet.extend_copied.Goals as goal
 

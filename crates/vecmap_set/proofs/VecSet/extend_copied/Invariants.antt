@@ -1,5 +1,4 @@
-use Rattle.std.proofs.Common.{◌≡◌, ◌+◌, ◌≤◌, length, map}
-use Rattle.std.specs.{List.IsDistinct, Map.Iter.deref}
+use Rattle.std.{proofs.Common.{◌≡◌, ◌+◌, ◌≤◌, length, map}, specs.{List.IsDistinct, Map.Iter.deref}}
 use Rattle.vecmap_base.specs.Items.{adds}
 use Rattle.vecmap_set.proofs.VecSet.extend_copied.Given as goal
 

@@ -1,6 +1,5 @@
-use Rattle.std.proofs.{Common.{◌+◌, ◌∷◌, [], ◌++◌, ap, arith, sym, subst, take, ◌∙◌, ◌≡◌}, lemmas.List.take_more, lemmas.Grind.common_steps}
-use Rattle.vecmap_base.specs.{Items.add, Clones.AreClones}
-use Rattle.vecmap_base.proofs.CloneLemmas.{TakesClones, clone_taken}
+use Rattle.std.proofs.{Common.{◌+◌, ◌∷◌, [], ◌++◌, ap, arith, sym, subst, take, ◌∙◌, ◌≡◌}, lemmas.{List.take_more, Grind.common_steps}}
+use Rattle.vecmap_base.{specs.{Items.add, Clones.AreClones}, proofs.CloneLemmas.{TakesClones, clone_taken}}
 use Rattle.vecmap_set.proofs.MemberLemmas.{adds_clones}
 use Rattle.vecmap_set.proofs.VecSet.from_slice.Goals as goal
 

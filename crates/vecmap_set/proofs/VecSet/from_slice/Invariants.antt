@@ -1,5 +1,4 @@
-use Rattle.std.proofs.Common.{◌≡◌, [], List, take}
-use Rattle.std.specs.List.{IsDistinct}
+use Rattle.std.{proofs.Common.{◌≡◌, [], List, take}, specs.List.IsDistinct}
 use Rattle.vecmap_base.specs.{Clones.AreClones, Items.adds}
 use Rattle.vecmap_set.proofs.VecSet.from_slice.Given as goal
 

@@ -1,5 +1,4 @@
-use Rattle.std.proofs.{Common.{◌≡◌, ◌∙◌, Some, ap, position, refl, sym}, lemmas.List.Quantifiers.position-Some}
-use Rattle.std.proofs.lemmas.Option.{slice_get_read}
+use Rattle.std.proofs.{Common.{◌≡◌, ◌∙◌, Some, ap, position, refl, sym}, lemmas.{List.Quantifiers.position-Some, Option.slice_get_read}}
 use Rattle.vecmap_set.proofs.VecSet.get_full.Goals as goal
 
 pub returns-clause-at : goal.returns-clause-at

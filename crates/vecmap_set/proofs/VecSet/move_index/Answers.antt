@@ -1,5 +1,4 @@
-use Rattle.std.specs.List.Sorted.{IsPermutation}
-use Rattle.std.proofs.Common.{rules, subst}
+use Rattle.std.{specs.List.Sorted.IsPermutation, proofs.Common.{rules, subst}}
 use Rattle.vecmap_set.proofs.ReorderLemmas.{distinct_rearranged, moves_item}
 use Rattle.vecmap_set.proofs.VecSet.move_index.Goals as goal
 

@@ -1,5 +1,4 @@
-use Rattle.vecmap_base.specs.Asked.{CallsAtItem}
-use Rattle.vecmap_base.proofs.DistinctLemmas.Removals.{distinct_kept}
+use Rattle.vecmap_base.{specs.Asked.CallsAtItem, proofs.DistinctLemmas.Removals.distinct_kept}
 use Rattle.vecmap_set.proofs.RemovalLemmas.{retains_items}
 use Rattle.vecmap_set.proofs.VecSet.retain.Goals as goal
 

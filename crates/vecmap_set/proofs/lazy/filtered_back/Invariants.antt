@@ -1,5 +1,4 @@
-use Rattle.std.proofs.Common.{◌≡◌, length}
-use Rattle.std.specs.{List.{before_last, filter}, Slice.Iter.iter_rest}
+use Rattle.std.{proofs.Common.{◌≡◌, length}, specs.{List.{before_last, filter}, Slice.Iter.iter_rest}}
 use Rattle.vecmap_set.specs.Lazy.{presence}
 use Rattle.vecmap_set.proofs.lazy.filtered_back.Given as goal
 

@@ -1,5 +1,4 @@
-use Rattle.std.proofs.Common.{map}
-use Rattle.std.specs.Map.Iter.{deref}
+use Rattle.std.{proofs.Common.map, specs.Map.Iter.deref}
 use Rattle.vecmap_base.specs.Clones.{AreClones}
 use Rattle.vecmap_set.proofs.operators.clones_of.Given as goal
 

@@ -1,7 +1,6 @@
 -- The moved sections are the sections of `other`, for which `make_room` reserved capacity. A merge of two documents is
 -- a document.
-use Rattle.std.proofs.Common.{◌∙◌, ap, subst, sym}
-use Rattle.std.specs.{List.All, Str.str_eq_ignore_ascii_case}
+use Rattle.std.{proofs.Common.{◌∙◌, ap, subst, sym}, specs.{List.All, Str.str_eq_ignore_ascii_case}}
 use Rattle.vecmap.specs.Pairs.{HasDistinctKeys}
 use Rattle.attr_doc.specs.Documents.{IsDocument, IsRoomFor, merge_of, sections_of}
 use Rattle.attr_doc.proofs.DocumentLemmas.{document_merged, document_of_none, names_apart}

@@ -1,5 +1,4 @@
-use Rattle.std.proofs.{Common.{ap, sym, ◌∙◌}, lemmas.Map.Made.keys_of-map_values}
-use Rattle.std.specs.Map.{keys_of}
+use Rattle.std.{proofs.{Common.{ap, sym, ◌∙◌}, lemmas.Map.Made.keys_of-map_values}, specs.Map.keys_of}
 use Rattle.attr_doc.proofs.document.Document.sections.Goals as goal
 
 pub returns-clause-names : goal.returns-clause-names

@@ -1,5 +1,4 @@
-use Rattle.attr_doc.specs.Documents.{sections_of}
-use Rattle.attr_doc.proofs.DocumentLemmas.{document_set}
+use Rattle.attr_doc.{specs.Documents.sections_of, proofs.DocumentLemmas.document_set}
 use Rattle.attr_doc.proofs.document.Document.set.Goals as goal
 
 pub invariant_of-self : goal.invariant_of-self

@@ -1,8 +1,6 @@
-use Rattle.std.specs.Prelude.{◌≡◌, ◌-◌, Some, if◌then◌else◌, length}
-use Rattle.std.proofs.Common.{arith, get_or, ◌∙◌}
+use Rattle.std.{specs.Prelude.{◌≡◌, ◌-◌, Some, if◌then◌else◌, length}, proofs.Common.{arith, get_or, ◌∙◌}}
 use Rattle.vecmap.specs.Pairs.{put}
-use Rattle.vecmap_callers.specs.Scopes.{resolved}
-use Rattle.vecmap_callers.proofs.ScopeLemmas.{resolved_defined}
+use Rattle.vecmap_callers.{specs.Scopes.resolved, proofs.ScopeLemmas.resolved_defined}
 use Rattle.vecmap_callers.proofs.scopes.Scopes.define.Goals as goal
 
 pub returns-clause-meanings : goal.returns-clause-meanings

@@ -1,7 +1,6 @@
-use Rattle.std.specs.{Prelude.{◌≡◌, ℕ, List, [], ◌∷◌, None, nat_eq}, Option.option_and_then}
-use Rattle.std.proofs.Common.{ap, rules}
+use Rattle.std.{specs.{Prelude.{◌≡◌, ℕ, List, [], ◌∷◌, None, nat_eq}, Option.option_and_then}, proofs.Common.{ap, rules}}
 use Rattle.vecmap.specs.Pairs.{lookup}
-use Rattle.vecmap_callers.specs.{Trees.value_at, declared.trees.Tree.{Tree, out-Tree}, declared.trees.Tree.TheViews.the_lemmas}
+use Rattle.vecmap_callers.specs.{Trees.value_at, declared.trees.Tree.{Tree, out-Tree, TheViews.the_lemmas}}
 use Rattle.vecmap_callers.proofs.trees.Tree.new.Goals as goal
 
 no_values : (tree : Tree) → (out-Tree tree).value ≡ None → (out-Tree tree).below.entries ≡ [] → (path : List ℕ) → value_at path tree ≡ None

@@ -1,5 +1,4 @@
-use Rattle.std.proofs.{Common.{◌≡◌, ap, refl, subst, sym}, lemmas.Result.{IfErr-weaker, IfOk-weaker}}
-use Rattle.std.specs.Fn.{FnOnceReturnsAt}
+use Rattle.std.{proofs.{Common.{◌≡◌, ap, refl, subst, sym}, lemmas.Result.{IfErr-weaker, IfOk-weaker}}, specs.Fn.FnOnceReturnsAt}
 use Rattle.vecmap_map.proofs.entry.Entry.or_insert_with_key.Goals as goal
 
 pub returns-in-Vacant : goal.returns-in-Vacant

@@ -1,5 +1,4 @@
-use Rattle.std.proofs.Common.{arith}
-use Rattle.std.specs.Prelude.{bytes_eq}
+use Rattle.std.{proofs.Common.arith, specs.Prelude.bytes_eq}
 use Rattle.vecmap_base.proofs.PairsLemmas.ByIndex.{value_found}
 use Rattle.vecmap_map.proofs.indexing.VecMapRefStrIndexRefStr.index.Goals as goal
 

@@ -1,6 +1,5 @@
 use Rattle.std.proofs.Common.{arith}
-use Rattle.vecmap_base.specs.Pairs.{has_text}
-use Rattle.vecmap_base.proofs.PairsLemmas.ByIndex.{value_found}
+use Rattle.vecmap_base.{specs.Pairs.has_text, proofs.PairsLemmas.ByIndex.value_found}
 use Rattle.vecmap_map.proofs.indexing.VecMapStringIndexRefStr.index.Goals as goal
 
 pub returns : goal.returns

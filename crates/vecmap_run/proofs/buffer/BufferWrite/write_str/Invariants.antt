@@ -1,5 +1,4 @@
-use Rattle.std.proofs.Common.{◌≡◌, take}
-use Rattle.std.specs.Io.KnownBytes.{Appends}
+use Rattle.std.{proofs.Common.{◌≡◌, take}, specs.Io.KnownBytes.Appends}
 use Rattle.vecmap_run.specs.Buffer.{buffer_bytes}
 use Rattle.vecmap_run.proofs.buffer.BufferWrite.write_str.Given as goal
 

@@ -1,5 +1,4 @@
-use Rattle.std.proofs.Common.{◌∷◌, take}
-use Rattle.std.specs.{Fmt.{HasWritten, IsPlainFormatter}, List.flat_map}
+use Rattle.std.{proofs.Common.{◌∷◌, take}, specs.{Fmt.{HasWritten, IsPlainFormatter}, List.flat_map}}
 use Rattle.vecmap_run.specs.Print.{printed_pair}
 use Rattle.vecmap_run.proofs.print.PrintedPairsDisplay.fmt.Given as goal
 

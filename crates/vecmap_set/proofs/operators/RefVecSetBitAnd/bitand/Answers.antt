@@ -1,8 +1,7 @@
-use Rattle.std.proofs.Common.{◌&&◌, ap, refl}
-use Rattle.std.specs.Set.{is_member}
+use Rattle.std.{proofs.Common.{◌&&◌, ap, refl}, specs.Set.is_member}
 use Rattle.vecmap_set.specs.Lazy.{FiltersFirst, filtered_rest}
-use Rattle.vecmap_base.specs.Items.{both}
 use Rattle.vecmap_set.proofs.OperatorLemmas.{distinct_both, fits_both, is_member_both, operator_clones, with_members}
+use Rattle.vecmap_base.specs.Items.{both}
 use Rattle.vecmap_set.proofs.operators.RefVecSetBitAnd.bitand.Goals as goal
 
 pub returns : goal.returns

@@ -1,6 +1,5 @@
 use Rattle.std.proofs.{Common.arith, lemmas.Grind.common_steps}
-use Rattle.vecmap_base.specs.Iterators.{rest_of}
-use Rattle.vecmap_base.proofs.WalkLemmas.{shows_rest_in_order, shows_rest_in_reverse}
+use Rattle.vecmap_base.{specs.Iterators.rest_of, proofs.WalkLemmas.{shows_rest_in_order, shows_rest_in_reverse}}
 use Rattle.vecmap_base.proofs.iter.by_mut.IterMutOf.over_items.Goals as goal
 
 pub returns-clause-rest : goal.returns-clause-rest

@@ -1,6 +1,5 @@
 use Rattle.std.proofs.{Common.arith, lemmas.Grind.common_steps}
-use Rattle.vecmap_set.specs.Lazy.{FiltersFirst, FiltersLast, filtered_rest, presence}
-use Rattle.vecmap_set.proofs.LazyLemmas.{length_filter, refs_run}
+use Rattle.vecmap_set.{specs.Lazy.{FiltersFirst, FiltersLast, filtered_rest, presence}, proofs.LazyLemmas.{length_filter, refs_run}}
 use Rattle.vecmap_set.proofs.lazy.filtered.FilteredOf.over.Goals as goal
 
 pub returns : goal.returns

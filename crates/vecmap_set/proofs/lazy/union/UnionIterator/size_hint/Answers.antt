@@ -1,7 +1,5 @@
-use Rattle.std.proofs.Common.{Some, ap, arith, length, length-append}
-use Rattle.std.specs.Slice.Iter.{iter_rest}
-use Rattle.vecmap_set.specs.Lazy.{filtered_rest, lacks_item}
-use Rattle.vecmap_set.proofs.LazyLemmas.{length_union_rest, within_sum}
+use Rattle.std.{proofs.Common.{Some, ap, arith, length, length-append}, specs.Slice.Iter.iter_rest}
+use Rattle.vecmap_set.{specs.Lazy.{filtered_rest, lacks_item}, proofs.LazyLemmas.{length_union_rest, within_sum}}
 use Rattle.vecmap_set.proofs.lazy.union.UnionIterator.size_hint.Goals as goal
 
 pub returns-clause-bounds : goal.returns-clause-bounds
