@@ -1,5 +1,5 @@
 //! The loops, once for each map and set that they run over. Statement by statement, they are the same as the loops in
-//! Rattle in `crates/vecmap_bench`.
+//! Rattle in `bench/rattle`.
 #[macro_use]
 mod equality;
 #[macro_use]

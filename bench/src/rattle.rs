@@ -1,6 +1,6 @@
 //! The loops in Rattle: over this library, over an earlier state of it, and some over the kit's indexmap.
 
-/// The `Input` and the `TextInput` of `crates/vecmap_bench`. A slice is a pointer and a length there, and the field
+/// The `Input` and the `TextInput` of `bench/rattle`. A slice is a pointer and a length there, and the field
 /// `alloc` has no bytes.
 #[repr(C)]
 struct Input<T> {
