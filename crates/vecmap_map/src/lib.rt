@@ -42,8 +42,8 @@ use std::marker::Model;
 ///
 /// # Complexity
 ///
-/// A call that takes a key or a query compares it with the keys in order, up to the first match: at most `len`
-/// comparisons. It compares no other keys, moves no pairs and does not allocate, unless its `# Complexity` says so.
+/// A call with a key or a query compares it with the keys in order, up to the first match: at most `len` comparisons.
+/// Unless its `# Complexity` says otherwise, any other call compares no keys, and no call moves pairs or allocates.
 ///
 /// # Examples
 ///

@@ -39,8 +39,8 @@ use std::marker::Model;
 ///
 /// # Complexity
 ///
-/// A call that takes an element or a query compares it with the elements in order, up to the first match: at most `len`
-/// comparisons. It compares no other elements, moves none and does not allocate, unless its `# Complexity` says so.
+/// A call with an element or a query makes at most `len` comparisons. Unless its `# Complexity` says otherwise, any
+/// other call makes none, and no call moves elements or allocates.
 ///
 /// # Examples
 ///
