@@ -1,9 +1,8 @@
 """Writes contracts and definitions as HTML, in which each name is a link, and keeps them as blocks.
 
 A doc comment has `<div class="contract">NUMBER</div>` in place of a block, where `site.py` puts the HTML. A link has
-the path of its target, such as `@vecmap_base::specs::Pairs::put`, which `site.py` makes relative.
-
-Above a clause stands what it says: the sentence of its definition with the arguments put in, if that speaks of all.
+the path of its target, such as `@vecmap_base::specs::Pairs::put`, which `site.py` makes relative. Above a clause stands
+what it says: the sentence of its definition with the arguments put in, or else the clause, read aloud.
 """
 
 import html
@@ -31,6 +30,7 @@ OWN_WORDS = "_ Self self result where abbrev pub data record module".split()
 WORD = re.compile(r"\((?:[^()]|\((?:[^()]|\([^()]*\))*\))*\)(?:\.\w+)*|[^\s()]+")
 # What is said of a result before a clause that holds only if it has this form.
 RESULT = re.compile(r"(OnOk|IfOk|OnErr|IfErr|OnSome|IfSome) result (\(.*\))")
+PLAIN = {"IsOk result": "The call returns `Ok`", "IsTrue result": "The result is `true`"}
 FAULTS, BLOCKS = [], []
 
 
@@ -95,12 +95,16 @@ def said(formula, about):
         is_said = all(parts) and len({*parts}) == len(parts) and ". " not in "".join(conditions)
         premise = "If {}, then ".format(" and ".join(map(lower, conditions))) if conditions else ""
         return premise + (lower(last) if premise else last) if is_said else ""
-    left, *right = split(formula, "≡")
-    if right:
-        value = sentence(right[0], about)
-        name = "The result" if left == "result" else f"`{left}`"
-        return f"{name} is {lower(value)}" if value.startswith("The ") and "λ" not in name else ""
-    return "The call returns `Ok`" if formula == "IsOk result" else sentence(formula, about)
+    if " ↔ " in formula:
+        one, other = (said(it, about) for it in split(formula, "↔"))
+        return f"{one} exactly if {lower(other)}" if one and other else ""
+    for sign, word in (("≡", "is"), ("<", "is below"), ("≤", "is at most")):
+        left, *right = split(formula, sign)
+        if len(right) == 1 and not re.search("[λ×⊎]", formula):
+            value, form = sentence(right[0], about), "`({})`" if ", " in right[0] else "`{}`"
+            value = lower(value) if value.startswith("The ") else form.format(right[0])
+            return f"{'The result' if left == 'result' else f'`{left}`'} {word} {value}"
+    return PLAIN.get(formula) or sentence(bare(formula.removeprefix("sem 𝓛 ")), about)
 
 
 class Block:

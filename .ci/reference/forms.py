@@ -46,12 +46,11 @@ def aliases(item, contract):
 
 def contract_of(item, text, given):
     """Returns an attribute with a contract, which may be empty. Pages name it by its type or its module."""
-    heading = "\n# Contract\n" * bool(text.strip())
     title = re.sub(r"^impl(?:<.*?>)? (?=[A-Z])| where.*", "", item.text)
     if item.kind != "impl":
         home = item.path.split("/")[3].removesuffix(".rt") if crate_of(item.path) == LAWS else ""
         title = "::".join(filter(None, [home, owner_of(item), item.name]))
-    return doc(heading + Block(item.path, item.line, title, text, given).mark)
+    return doc("\n# Contract\n" * bool(text.strip()) + Block(item.path, item.line, title, text, given).mark)
 
 
 def function_form(item):

@@ -142,7 +142,7 @@ def picture_faults(text):
     """Says whether README's picture shows another text of `insert` than the page of maps."""
     shown = re.search(r'id="method\.insert".*?(?= id="method\.\w+")', text, re.DOTALL)[0]
     made = hashlib.sha256(re.sub(r"<[^>]*>|\s", "", shown).encode()).hexdigest()[:16]
-    if made != "13a38578a4e02849" and os.path.isdir(kit()):
+    if made != "48b09ab994f5557d" and os.path.isdir(kit()):
         yield f"docs/call.png: it shows another text; take it anew, and write {made} into site.py"
 
 
@@ -163,8 +163,7 @@ def make(work, out):
     for page, text in texts.items():
         write(f"{out}/{page}", text)
     for page in files(f"{out}/static.files/[ms]*.js"):
-        text = CONSTANT.sub("Definition", read(page))
-        write(page, text.replace('"assoc type","constant"', '"assoc type","definition"'))
+        write(page, CONSTANT.sub("Definition", read(page)).replace('type","constant"', 'type","definition"'))
     # Nobody else can name the trait `Predicate`.
     lost = [f"{it.where} is not on the site" for it in BLOCKS if not it.place and not it.title.startswith("Predicate")]
     return [*FAULTS, *lost, *link_faults(texts, out), *picture_faults(texts["vecmap/struct.VecMap.html"])]
