@@ -1,7 +1,6 @@
 //! Insertion of one pair.
-ghost use Rattle.std.specs.Prelude.{◌≡◌, ◌++◌, ◌∷◌, ◌<◌, ◌≤◌, ◌⊎◌, Err, IfErr, IfOk, IfSome, IsTrue, None, Ok, OnErr, OnOk, Some, [], length};
-ghost use Rattle.vecmap_base.specs.{Indices.HasMatchAt, Insertions.{AddsKey, InsertsAt, PutsKey}, Removals.FindsPair};
-ghost use Rattle.vecmap_base.specs.Pairs.{index_by, index_or_length, lookup, lookup_indexed};
+ghost use Rattle.std.specs.Prelude.{◌≡◌, ◌^◌, ◌++◌, ◌∷◌, ◌<◌, ◌≤◌, ◌⊎◌, Err, IfErr, IfOk, IfSome, IsTrue, None, Ok, OnErr, OnOk, Some, [], length};
+ghost use Rattle.vecmap_base.specs.{Indices.HasMatchAt, Insertions.{AddsKey, InsertsAt, PutsKey}, Pairs.{index_by, index_or_length, lookup, lookup_indexed}, Removals.FindsPair};
 ghost use Rattle.vecmap_map.specs.Contents.{Appends, FailsToAppend, FindsOrAppends, HasRoom, KeepsRoom, KeepsRoomAt, Refuses, RefusesAt};
 
 use crate::VecMap;
@@ -68,6 +67,7 @@ impl<K, V> VecMap<K, V> {
         ensures insertion { OnOk result (AddsKey K.eq self.old.entries key value self.new.entries) }
         ensures index { IfOk result (λ done. done.0 ≡ index_or_length K.eq self.old.entries key) }
         ensures at { IfOk result (λ done. HasMatchAt (K.eq key) self.new.entries done.0) }
+        ensures countable { IfOk result (λ done. done.0 < 2 ^ 63) }
         ensures old { IfOk result (λ done. done.1 ≡ lookup K.eq self.old.entries key) }
         ensures capacity { KeepsRoom K.eq self.old key self.new }
 
@@ -75,12 +75,12 @@ impl<K, V> VecMap<K, V> {
         ensures given { IfErr result (λ refused. refused.given ≡ (key, value)) }
         ensures err { OnErr result (Refuses K.eq self.old key self.new) }
     {
+        let len = self.len(); // Bounds the index.
         if let Some(index) = find(&self.pairs, &key) {
             return Ok((index, Some(replace(&mut self.pairs[index].1, value))));
         }
-        let index = self.pairs.len();
         self.push(key, value)?;
-        Ok((index, None))
+        Ok((len, None))
     }
 
     /// Inserts a pair, replacing an equal key, and returns the previous pair of the key.

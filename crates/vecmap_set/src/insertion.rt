@@ -1,9 +1,8 @@
 //! Insertion of one element.
-ghost use Rattle.std.specs.Prelude.{◌≡◌, ◌++◌, ◌∷◌, ◌≤◌, ◌||◌, ◌⊎◌, Bool, Err, IfErr, IfOk, IfSome, IsTrue, None, Ok, OnErr, OnOk, Some, [], false, length, not, position, slice_get, unwrap_or};
+ghost use Rattle.std.specs.Prelude.{◌≡◌, ◌^◌, ◌++◌, ◌∷◌, ◌<◌, ◌≤◌, ◌||◌, ◌⊎◌, Bool, Err, IfErr, IfOk, IfSome, IsTrue, None, Ok, OnErr, OnOk, Some, [], false, length, not, position, slice_get, unwrap_or};
 ghost use Rattle.std.specs.{List.{IsDistinct, list_any}, Set.is_member};
 ghost use Rattle.vecmap_base.specs.Items.{item_index, stored_item};
-ghost use Rattle.vecmap_set.specs.Contents.{Appends, FailsToAppend, IsFull, KeepsRoom, KeepsRoomAt, Refuses, Reserves};
-ghost use Rattle.vecmap_set.specs.{Indices.FindsAt, Insertions.{AddsItem, AddsItemBy, PutsItem}};
+ghost use Rattle.vecmap_set.specs.{Contents.{Appends, FailsToAppend, IsFull, KeepsRoom, KeepsRoomAt, Refuses, Reserves}, Indices.FindsAt, Insertions.{AddsItem, AddsItemBy, PutsItem}};
 
 use crate::VecSet;
 use std::alloc::AllocError;
@@ -72,6 +71,7 @@ impl<T: Eq> VecSet<T> {
         ensures index { IfOk result (λ done. done.0
             ≡ unwrap_or (item_index T.eq self.old.elements item) (length self.old.elements)) }
         ensures found { IfOk result (λ done. FindsAt (T.eq item) self.new.elements done.0) }
+        ensures countable { IfOk result (λ done. done.0 < 2 ^ 63) }
         ensures added { IfOk result
             (λ done. done.1 ≡ not (is_member T.eq self.old.elements item)) }
         ensures distinct { IsDistinct T.eq self.new.elements }
@@ -81,12 +81,12 @@ impl<T: Eq> VecSet<T> {
         ensures given { IfErr result (λ refused. refused.given ≡ item) }
         ensures err { OnErr result (Refuses T.eq self.old item self.new) }
     {
+        let len = self.len(); // Bounds the index.
         if let Some(index) = find_item(&self.items, &item) {
             return Ok((index, false));
         }
-        let index = self.len();
         self.insert_unique(item)?;
-        Ok((index, true))
+        Ok((len, true))
     }
 
     /// Like [`VecSet::insert`], but an equal element is replaced, at its index, and returned.
