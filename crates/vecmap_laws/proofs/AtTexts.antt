@@ -1,11 +1,12 @@
 -- The lemmas of the rulesets of lookups and of members, at texts: `grind` sees the `==` of texts as it computes, so it
 -- matches a lemma that is stated of it, and not one of any `==`.
-use Rattle.std.specs.{String.string_eq_equiv, Cmp.nat_eq_equiv, declared.alloc.Global.Global}
-use Rattle.std.proofs.Common.{rules, ◌≡◌, ℕ, String, List, None, Some, IsTrue, bytes_eq, eqb-true, if◌then◌else◌, nat_eq, string_eq}
+use Rattle.std.specs.{String.string_eq_equiv, Cmp.nat_eq_equiv, Map.set_value, declared.alloc.Global.Global}
+use Rattle.std.proofs.Common.{rules, ◌≡◌, ℕ, Bool, String, List, None, Some, IsSome, IsTrue, bytes_eq, eqb-true, false, if◌then◌else◌, nat_eq, refl, string_eq, subst, true}
 use Rattle.vecmap_base.specs.{Pairs.{HasDistinctKeys, has_text, lookup, lookup_by, put, without_by}, Equality.has_same_counts}
+use Rattle.vecmap_base.proofs.PairsLemmas.Updates.{updates_write}
 use Rattle.vecmap_laws.proofs.{Equations.put_put, MapEquality.lookups_of_equal, Lookups.lookup_without_apart, TextQueries.same_texts}
 use Rattle.vecmap_laws.proofs.Queries.{lookup_put_any_query, lookup_without_query, string_equality, text_respects}
-use Rattle.vecmap_laws.proofs.WriteLemmas.{texts_apart}
+use Rattle.vecmap_laws.proofs.WriteLemmas.{lookup_written_other_text, texts_apart}
 
 module _ {A V : Type 0} where
   pub put_put_of_texts : (l : List (String A × V)) (k : String A) (v w : V) → put string_eq (put string_eq l k v) k w ≡ put string_eq l k w
@@ -23,5 +24,13 @@ module _ {V : Type 0} (l : List (String Global × V)) (text : List ℕ) where
   pub text_without : (other : List ℕ) → HasDistinctKeys string_eq l → lookup_by (has_text text) (without_by (has_text other) l) ≡ (if bytes_eq other text then None else lookup_by (has_text text) l)
   text_without other d = search (rules, bytes_eq, same_texts, lookup_without_query, string_eq, string_equality, text_respects, lookup_without_apart, texts_apart)
 
+  -- The other text finds a value, which is written.
+  pub text_set : (other : List ℕ) (v : V) → IsSome (lookup_by (has_text other) l) → lookup_by (has_text text) (set_value (has_text other) l v) ≡ (if bytes_eq other text then Some v else lookup_by (has_text text) l)
+  text_set other v some = by (bytes_eq other text) refl
+    where
+      by : (b : Bool) → bytes_eq other text ≡ b → lookup_by (has_text text) (set_value (has_text other) l v) ≡ (if b then Some v else lookup_by (has_text text) l)
+      by true e = subst (λ t. lookup_by (has_text t) (set_value (has_text other) l v) ≡ Some v) (same_texts other text e) (updates_write string_eq string_equality (has_text other) (text_respects other) l v some).own
+      by false n = lookup_written_other_text (record { entries = l; capacity = 0 }) other text v n
+
 -- What texts find after calls.
-pub ruleset texts = (text_put, text_without)
+pub ruleset texts = (text_put, text_without, text_set)
