@@ -1,13 +1,8 @@
 -- What a closure leaves of a list if each call returns the result of a test, or writes the item in the same way.
-use Rattle.std.{specs.Prelude.{◌≡◌, Bool, List, [], ◌∷◌, filter, if◌then◌else◌, refl}, proofs.Common.{arith, subst, ◌∙◌}}
+use Rattle.std.{specs.Prelude.{◌≡◌, Bool, List, [], ◌∷◌, filter, if◌then◌else◌, refl}, proofs.Common.{subst, ◌∙◌}}
 use Rattle.vecmap_base.specs.Kept.{Kept, TestsItems}
 
 module _ {F X : Type 0} (R : F → X → Bool → X → F → Type 0) where
-  -- A closure that writes nothing and returns the result of a test keeps the items that pass the test.
-  pub kept_by_test : (test : X → Bool) → ((f : F) (x : X) (b : Bool) (y : X) (g : F) → R f x b y g → (b ≡ test x) × (y ≡ x)) → (f : F) (xs m : List X) (g : F) → Kept R f xs m g → m ≡ filter test xs
-  kept_by_test test told f [] m g k = grind (arith)
-  kept_by_test test told f (x ∷ xs) m g k = grind (arith, (kept_by_test test told k.2 xs k.3 g k.5))
-
   -- `Holds` is an invariant of the closure's states: a call in a state where it holds leaves a state where it holds.
   module _ (Holds : F → Type 0) where
     -- If each such call returns the result of a test and writes nothing, the items that pass the test are kept.

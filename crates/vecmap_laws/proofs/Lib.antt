@@ -9,7 +9,6 @@ pub mod Combining
 mod ComparisonLemmas
 pub use Rattle.vecmap_map.proofs.ContentsLemmas
 pub mod DistinctAbsent
-pub mod DistinctAdditions
 pub mod DistinctKeys
 pub use Rattle.vecmap_base.proofs.DistinctLemmas.Order as DistinctOrder
 pub mod DistinctParts
@@ -18,7 +17,6 @@ pub mod EachPair
 pub mod EachValue
 mod EntryPuts
 pub mod Equations
-pub mod FilterLemmas
 pub mod Finds
 pub mod FirstValue
 pub mod HeadLemmas

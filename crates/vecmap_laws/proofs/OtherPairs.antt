@@ -59,12 +59,7 @@ module _ {K V : Type 0} (eq : K → K → Bool) where
     own_first : (l : List (K × V)) (k : K) (v : V) → without_key eq ((k, v) ∷ l) k ≡ l
     own_first l k v = ap (λ b. if b then l else (k, v) ∷ without_key eq l k) (o.refl k)
 
-    -- An insertion leaves the pairs of the other keys.
-    pub without_put : (l : List (K × V)) (k : K) (v : V) → without_key eq (put eq l k v) k ≡ without_key eq l k
-    without_put [] k v = grind (arith, own_first)
-    without_put (p ∷ ps) k v = grind (arith, own_first, (without_put ps k v))
-
-    -- So does a write of the value of the key.
+    -- A write of the value of a key leaves the pairs of the other keys.
     pub without_written : (m : Contents K V) (k : K) (v : V) → without_key eq (with_value_of eq m k v).entries k ≡ without_key eq m.entries k
     without_written m k v = removed m.entries
       where
