@@ -2,10 +2,10 @@
 
     python3 bench/layout.py MAP FOLDER ORDER..
 
-A processor fetches code in blocks of 32 bytes, and a tight loop may take half as long again if it begins in the
-middle of one. A linker puts functions at multiples of 16. Here, in half of the orders the functions in Rattle begin at
-multiples of 32, and in the others 16 bytes later. So do the functions in Rust: any four orders in a row have each of
-the four pairs once. The functions are shuffled, too.
+A processor fetches and keeps code in blocks of 32 and 64 bytes, and a tight loop may take twice as long by its place in
+one. A linker puts functions at multiples of 16. Here the functions in Rattle begin at one of the four places in 64
+bytes, and so do the functions in Rust: of eight orders from a multiple of eight on, each side has each place twice, and
+no two orders have the same two places. The functions are shuffled, too.
 
 MAP is the linker's map of the program, and `FOLDER/ORDER.ld` becomes the script of an order, a number.
 """
@@ -28,12 +28,12 @@ def sections_of(name):
 
 def script(sections, order):
     """Returns the linker script of an order."""
-    starts = {True: 16 * (order % 2), False: 16 * (order // 2 % 2)}
+    starts = {True: 16 * (order % 4), False: 16 * ((order + order // 4) % 4)}
     lines = []
     for is_rattle, archive, section in random.Random(order).sample(sections, len(sections)):
         name = re.sub(r"[][*]", "?", section)
-        lines.append(f'. = ALIGN(32) + {starts[is_rattle]}; *{archive + ":*" if archive else ""}("{name}")')
-    return "SECTIONS {\n.text.shuffled : ALIGN(32) {\n" + "\n".join(lines) + "\n}\n} INSERT BEFORE .text;\n"
+        lines.append(f'. = ALIGN(64) + {starts[is_rattle]}; *{archive + ":*" if archive else ""}("{name}")')
+    return "SECTIONS {\n.text.shuffled : ALIGN(64) {\n" + "\n".join(lines) + "\n}\n} INSERT BEFORE .text;\n"
 
 
 def main():

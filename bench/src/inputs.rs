@@ -30,6 +30,11 @@ pub fn letter(number: u64) -> char {
     char::from_u32((number >> 45) as u32).unwrap_or('a')
 }
 
+/// Returns whether a number is chosen in this round: about half are, and no branch predictor sees which.
+pub fn is_chosen(number: u64, round: u64) -> bool {
+    (number ^ round).wrapping_mul(0x9e37_79b9_7f4a_7c15) >> 63 == 1
+}
+
 /// Returns the first 32 bits of a number.
 pub fn half(number: u64) -> u32 {
     (number >> 32) as u32

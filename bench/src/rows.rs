@@ -9,12 +9,13 @@
 //!   compares nothing. The keys are the numbers from 0 on, as many as in the other rows, so each is known to be new. The
 //!   original's side has `insert` of the same keys. `index_or_try_insert_with` finds each key, and `get_value_at_mut`
 //!   writes its value; the original's side has `entry`. `move_index` moves the first pair to the back; the original's
-//!   side has `remove_index` and `insert_at`.
+//!   side has `remove_index` and `insert_at`, or `insert` of sets. Beside `first_value_mut` and `pair_mut` are `first_mut`
+//!   and `get_index_mut`.
 //! - Removals: `remove_index` removes all pairs of a clone. `retain`, `drain` and `split_off` remove half of a clone.
 //!   `retain all` removes nothing of it, and `drain all` removes all of it from the back. The times include the
-//!   clone.
+//!   clone. `retain others` and `drain either half` remove other pairs in each round, which no branch predictor knows.
 //! - Bulk: `From<Vec>` and `from_iter` take a vector of pairs that is created in the loop, with distinct keys or with
-//!   about four pairs for each key. `From<Vec> counted` compares `from_vec_counted` with the original's `From`.
+//!   about four pairs for each key. `mapped` is an iterator over a slice. `From<Vec> counted` compares `from_vec_counted` with the original's `From`.
 //!   `extend` and `append` insert as many pairs as a clone has, half of them with existing keys, into that clone.
 //! - Equality: before each comparison, one value of each map is written, or two elements of a set are swapped, so
 //!   that the compiler cannot compare once for all rounds.
@@ -196,6 +197,10 @@ fn added(it: &Numbers) -> Vec<Row<'_, u64>> {
         new_row!("insert_unique reserved", n, &it.keys, &[], insert_unique_reserved),
         new_row!("index_or_try_insert_with", n, &it.keys, &it.hits, index_or_insert),
         new_row!("move_index to the back", n, &it.keys, &it.hits, move_index),
+        new_row!("first_value_mut", n, &it.keys, &it.hits, first_value_mut),
+        new_row!("pair_mut", n, &it.keys, &it.hits, pair_mut),
+        new_row!("set insert_unique new", n, &it.keys, &[], set_insert_unique),
+        new_row!("set move_index to the back", n, &it.keys, &it.hits, set_move_index),
     ];
     for row in &mut rows {
         row.loops[1].0 = ADDED;
@@ -212,7 +217,9 @@ fn removals(it: &Numbers) -> Vec<Row<'_, u64>> {
         row!("remove_index middle", n, &it.keys, &[], remove_middle, index),
         row!("retain half", n, &it.keys, &[], retain),
         row!("retain all", n, &it.keys, &[], retain_all),
+        row!("retain others", n, &it.keys, &[], retain_others),
         row!("drain half", n, &it.keys, &[], drain),
+        row!("drain either half", n, &it.keys, &[], drain_either),
         row!("drain all, back", n, &it.keys, &[], drain_back),
         row!("split_off half", n, &it.keys, &[], split_off),
     ]
@@ -226,6 +233,7 @@ fn bulk(it: &Numbers) -> Vec<Row<'_, u64>> {
         row!("From<Vec> repeats", n, &it.repeats, &[], from_vec, linear, index),
         row!("from_iter distinct", n, &it.keys, &[], from_iter, linear, index),
         row!("from_iter repeats", n, &it.repeats, &[], from_iter, linear, index),
+        row!("from_iter, mapped", n, &it.keys, &[], from_iter_mapped),
         row!("extend half there", n, &it.keys, &it.half, extend, linear, index),
         row!("append half there", n, &it.keys, &it.half, append),
         row!("clone", n, &it.keys, &[], clone, linear, index),

@@ -24,6 +24,9 @@ struct Settings {
     samples: usize,
     /// The least time of a sample.
     seconds: f64,
+    /// The library whose loops of the rows of just these names run once, and the number of their rounds. Then nothing is
+    /// timed, and the numbers of operations of a round are printed.
+    counted: Option<(String, u64)>,
 }
 
 #[repr(C)]
@@ -87,6 +90,14 @@ fn median(mut xs: Vec<f64>) -> f64 {
 }
 
 fn time<T>(settings: &Settings, row: &Row<T>, n: usize) {
+    if let Some((library, rounds)) = &settings.counted {
+        let is_chosen = settings.only.iter().any(|name| row.name == name);
+        for (_, run) in row.loops.iter().filter(|it| is_chosen && it.0 == library) {
+            timed(row, *run, *rounds);
+            println!("{}", row.steps);
+        }
+        return;
+    }
     let chosen = |word: &String| row.name.contains(word.as_str());
     if !settings.only.is_empty() && !settings.only.iter().any(chosen) {
         return;
@@ -133,6 +144,7 @@ fn main() {
         only: env::args().skip(1).collect(),
         samples: number("SAMPLES", 5),
         seconds: number("SECONDS", 0.003),
+        counted: env::var("COUNTED").ok().map(|library| (library, number("ROUNDS", 1))),
     };
     for n in sizes("SIZES", "2 4 8 16 32 128 512 1000 10000") {
         let inputs = Numbers::of(n);

@@ -7,8 +7,7 @@ macro_rules! equality_loops {
         pub fn eq(keys: &[u64], _: &[u64], rounds: u64) -> u64 {
             let mut map = filled(keys);
             let mut other = filled(keys);
-            let mut sum = 0u64;
-            for round in 0..rounds {
+            rounds!(rounds, |sum, round| {
                 if let Some((_key, value)) = $end(&mut map, keys.len().wrapping_sub(1)) {
                     *value = round;
                 }
@@ -18,8 +17,7 @@ macro_rules! equality_loops {
                 if map == other {
                     sum = sum.wrapping_add(round);
                 }
-            }
-            sum
+            })
         }
 
         #[inline(never)]
@@ -27,8 +25,7 @@ macro_rules! equality_loops {
             let mut map = filled(keys);
             let mut other = filled(keys);
             other.reverse();
-            let mut sum = 0u64;
-            for round in 0..rounds {
+            rounds!(rounds, |sum, round| {
                 if let Some((_key, value)) = $end(&mut map, keys.len().wrapping_sub(1)) {
                     *value = round;
                 }
@@ -38,16 +35,14 @@ macro_rules! equality_loops {
                 if map == other {
                     sum = sum.wrapping_add(round);
                 }
-            }
-            sum
+            })
         }
 
         #[inline(never)]
         pub fn eq_not(keys: &[u64], _: &[u64], rounds: u64) -> u64 {
             let mut map = filled(keys);
             let mut other = filled(keys);
-            let mut sum = 0u64;
-            for round in 0..rounds {
+            rounds!(rounds, |sum, round| {
                 if let Some((_key, value)) = $end(&mut map, keys.len().wrapping_sub(1)) {
                     *value = round;
                 }
@@ -57,8 +52,7 @@ macro_rules! equality_loops {
                 if map != other {
                     sum = sum.wrapping_add(round);
                 }
-            }
-            sum
+            })
         }
     };
 }

@@ -22,44 +22,34 @@ macro_rules! large_loops {
 
         #[inline(never)]
         pub fn large_insert(keys: &[u64], _: &[u64], rounds: u64) -> u64 {
-            let mut sum = 0u64;
-            for round in 0..rounds {
+            rounds!(rounds, |sum, round| {
                 let mut map = $map::new();
                 for key in keys {
                     map.insert(*key, [*key ^ round; 16]);
                 }
                 sum = sum.wrapping_add(large_mark(&map));
-            }
-            sum
+            })
         }
 
         #[inline(never)]
         pub fn large_insert_present(keys: &[u64], probes: &[u64], rounds: u64) -> u64 {
             let mut map = large_filled(keys);
-            let mut sum = 0u64;
-            for round in 0..rounds {
-                for probe in probes {
-                    if let Some(old) = map.insert(*probe, [*probe ^ round; 16]) {
-                        sum = sum.wrapping_add(old[7]);
-                    }
+            rounds!(rounds, probes, |sum, round, probe| {
+                if let Some(old) = map.insert(*probe, [*probe ^ round; 16]) {
+                    sum = sum.wrapping_add(old[7]);
                 }
-            }
-            sum
+            })
         }
 
         #[inline(never)]
         pub fn large_remove(keys: &[u64], probes: &[u64], rounds: u64) -> u64 {
             let mut map = large_filled(keys);
-            let mut sum = 0u64;
-            for round in 0..rounds {
-                for probe in probes {
-                    if let Some(value) = map.$remove(probe) {
-                        sum = sum.wrapping_add(value[3] ^ round);
-                        map.insert(*probe, value);
-                    }
+            rounds!(rounds, probes, |sum, round, probe| {
+                if let Some(value) = map.$remove(probe) {
+                    sum = sum.wrapping_add(value[3] ^ round);
+                    map.insert(*probe, value);
                 }
-            }
-            sum
+            })
         }
 
         // The pairs have 64 bytes.
@@ -69,43 +59,35 @@ macro_rules! large_loops {
             for key in keys {
                 map.insert(*key, [*key; 7]);
             }
-            let mut sum = 0u64;
-            for round in 0..rounds {
-                for probe in probes {
-                    if let Some(value) = map.$remove(probe) {
-                        sum = sum.wrapping_add(value[3] ^ round);
-                        map.insert(*probe, value);
-                    }
+            rounds!(rounds, probes, |sum, round, probe| {
+                if let Some(value) = map.$remove(probe) {
+                    sum = sum.wrapping_add(value[3] ^ round);
+                    map.insert(*probe, value);
                 }
-            }
-            sum
+            })
         }
 
         #[inline(never)]
         pub fn large_from_vec(keys: &[u64], _: &[u64], rounds: u64) -> u64 {
-            let mut sum = 0u64;
-            for round in 0..rounds {
+            rounds!(rounds, |sum, round| {
                 let mut pairs = Vec::with_capacity(keys.len());
                 for key in keys {
                     pairs.push((*key, [*key ^ round; 16]));
                 }
                 sum = sum.wrapping_add(large_mark(&$from(pairs)));
-            }
-            sum
+            })
         }
 
         #[inline(never)]
         pub fn large_entry(keys: &[u64], _: &[u64], rounds: u64) -> u64 {
-            let mut sum = 0u64;
-            for round in 0..rounds {
+            rounds!(rounds, |sum, round| {
                 let mut map = $map::with_capacity(keys.len());
                 for key in keys {
                     let value = map.entry(*key).or_insert([*key ^ round; 16]);
                     sum = sum.wrapping_add(value[0]);
                 }
                 sum = sum.wrapping_add(large_mark(&map));
-            }
-            sum
+            })
         }
     };
 }
@@ -116,16 +98,12 @@ macro_rules! placed_large_loops {
         #[inline(never)]
         pub fn large_swap_remove(keys: &[u64], probes: &[u64], rounds: u64) -> u64 {
             let mut map = large_filled(keys);
-            let mut sum = 0u64;
-            for round in 0..rounds {
-                for probe in probes {
-                    if let Some(value) = map.swap_remove(probe) {
-                        sum = sum.wrapping_add(value[3] ^ round);
-                        map.insert(*probe, value);
-                    }
+            rounds!(rounds, probes, |sum, round, probe| {
+                if let Some(value) = map.swap_remove(probe) {
+                    sum = sum.wrapping_add(value[3] ^ round);
+                    map.insert(*probe, value);
                 }
-            }
-            sum
+            })
         }
     };
 }

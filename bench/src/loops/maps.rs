@@ -33,155 +33,121 @@ macro_rules! map_loops {
                 map.insert(letter(*key), half(*key));
             }
             let wanted: Vec<char> = probes.iter().map(|probe| letter(*probe)).collect();
-            let mut sum = 0u64;
-            for round in 0..rounds {
-                for probe in &wanted {
-                    if let Some(value) = map.get(probe) {
-                        sum = sum.wrapping_add(u64::from(*value) ^ round);
-                    }
+            rounds!(rounds, &wanted, |sum, round, probe| {
+                if let Some(value) = map.get(probe) {
+                    sum = sum.wrapping_add(u64::from(*value) ^ round);
                 }
-            }
-            sum
+            })
         }
 
         #[inline(never)]
         pub fn get(keys: &[u64], probes: &[u64], rounds: u64) -> u64 {
             let map = filled(keys);
-            let mut sum = 0u64;
-            for round in 0..rounds {
-                for probe in probes {
-                    if let Some(value) = map.get(probe) {
-                        sum = sum.wrapping_add(*value ^ round);
-                    }
+            rounds!(rounds, probes, |sum, round, probe| {
+                if let Some(value) = map.get(probe) {
+                    sum = sum.wrapping_add(*value ^ round);
                 }
-            }
-            sum
+            })
         }
 
         #[inline(never)]
         pub fn insert(keys: &[u64], _: &[u64], rounds: u64) -> u64 {
-            let mut sum = 0u64;
-            for round in 0..rounds {
+            rounds!(rounds, |sum, round| {
                 let mut map = $map::new();
                 for key in keys {
                     map.insert(*key, *key ^ round);
                 }
                 sum = sum.wrapping_add(mark(&map));
-            }
-            sum
+            })
         }
 
         #[inline(never)]
         pub fn insert_reserved(keys: &[u64], _: &[u64], rounds: u64) -> u64 {
-            let mut sum = 0u64;
-            for round in 0..rounds {
+            rounds!(rounds, |sum, round| {
                 let mut map = $map::with_capacity(keys.len());
                 for key in keys {
                     map.insert(*key, *key ^ round);
                 }
                 sum = sum.wrapping_add(mark(&map));
-            }
-            sum
+            })
         }
 
         #[inline(never)]
         pub fn insert_present(keys: &[u64], probes: &[u64], rounds: u64) -> u64 {
             let mut map = filled(keys);
-            let mut sum = 0u64;
-            for round in 0..rounds {
-                for probe in probes {
-                    if let Some(old) = map.insert(*probe, *probe ^ round) {
-                        sum = sum.wrapping_add(old);
-                    }
+            rounds!(rounds, probes, |sum, round, probe| {
+                if let Some(old) = map.insert(*probe, *probe ^ round) {
+                    sum = sum.wrapping_add(old);
                 }
-            }
-            sum
+            })
         }
 
         #[inline(never)]
         pub fn remove(keys: &[u64], probes: &[u64], rounds: u64) -> u64 {
             let mut map = filled(keys);
-            let mut sum = 0u64;
-            for round in 0..rounds {
-                for probe in probes {
-                    if let Some(value) = map.$remove(probe) {
-                        sum = sum.wrapping_add(value);
-                        map.insert(*probe, value ^ round);
-                    }
+            rounds!(rounds, probes, |sum, round, probe| {
+                if let Some(value) = map.$remove(probe) {
+                    sum = sum.wrapping_add(value);
+                    map.insert(*probe, value ^ round);
                 }
-            }
-            sum
+            })
         }
 
         #[inline(never)]
         pub fn entry_present(keys: &[u64], probes: &[u64], rounds: u64) -> u64 {
             let mut map = filled(keys);
-            let mut sum = 0u64;
-            for round in 0..rounds {
-                for probe in probes {
-                    let value = map.entry(*probe).or_insert(round);
-                    sum = sum.wrapping_add(*value);
-                    *value = *value ^ round;
-                }
-            }
-            sum
+            rounds!(rounds, probes, |sum, round, probe| {
+                let value = map.entry(*probe).or_insert(round);
+                sum = sum.wrapping_add(*value);
+                *value = *value ^ round;
+            })
         }
 
         #[inline(never)]
         pub fn entry_absent(keys: &[u64], _: &[u64], rounds: u64) -> u64 {
-            let mut sum = 0u64;
-            for round in 0..rounds {
+            rounds!(rounds, |sum, round| {
                 let mut map = $map::with_capacity(keys.len());
                 for key in keys {
                     let value = map.entry(*key).or_insert(round);
                     *value = *value ^ *key;
                 }
                 sum = sum.wrapping_add(mark(&map));
-            }
-            sum
+            })
         }
 
         #[inline(never)]
         pub fn from_vec(keys: &[u64], _: &[u64], rounds: u64) -> u64 {
-            let mut sum = 0u64;
-            for round in 0..rounds {
+            rounds!(rounds, |sum, round| {
                 let map = $from(pairs(keys));
                 sum = sum.wrapping_add(mark(&map) ^ round);
-            }
-            sum
+            })
         }
 
         #[inline(never)]
         pub fn from_iter(keys: &[u64], _: &[u64], rounds: u64) -> u64 {
-            let mut sum = 0u64;
-            for round in 0..rounds {
+            rounds!(rounds, |sum, round| {
                 let map = $map::from_iter(pairs(keys).into_iter());
                 sum = sum.wrapping_add(mark(&map) ^ round);
-            }
-            sum
+            })
         }
 
         #[inline(never)]
         pub fn extend(keys: &[u64], probes: &[u64], rounds: u64) -> u64 {
             let full = filled(keys);
-            let mut sum = 0u64;
-            for round in 0..rounds {
+            rounds!(rounds, |sum, round| {
                 let mut map = full.clone();
                 map.extend(pairs(probes).into_iter());
                 sum = sum.wrapping_add(mark(&map) ^ round);
-            }
-            sum
+            })
         }
 
         #[inline(never)]
         pub fn clone(keys: &[u64], _: &[u64], rounds: u64) -> u64 {
             let full = filled(keys);
-            let mut sum = 0u64;
-            for round in 0..rounds {
+            rounds!(rounds, |sum, round| {
                 let map = full.clone();
                 sum = sum.wrapping_add(mark(&map) ^ round);
-            }
-            sum
+            })
         }
     };
 }
@@ -192,65 +158,50 @@ macro_rules! placed_loops {
         #[inline(never)]
         pub fn place(keys: &[u64], probes: &[u64], rounds: u64) -> u64 {
             let map = filled(keys);
-            let mut sum = 0u64;
-            for round in 0..rounds {
-                for probe in probes {
-                    if let Some(place) = map.get_index_of(probe) {
-                        sum = sum.wrapping_add(place as u64 ^ round);
-                    }
+            rounds!(rounds, probes, |sum, round, probe| {
+                if let Some(place) = map.get_index_of(probe) {
+                    sum = sum.wrapping_add(place as u64 ^ round);
                 }
-            }
-            sum
+            })
         }
 
         #[inline(never)]
         pub fn insert_full(keys: &[u64], _: &[u64], rounds: u64) -> u64 {
-            let mut sum = 0u64;
-            for round in 0..rounds {
+            rounds!(rounds, |sum, round| {
                 let mut map = $map::with_capacity(keys.len());
                 for key in keys {
                     let (place, _old) = map.insert_full(*key, *key ^ round);
                     sum = sum.wrapping_add(place as u64);
                 }
                 sum = sum.wrapping_add(mark(&map));
-            }
-            sum
+            })
         }
 
         #[inline(never)]
         pub fn insert_full_present(keys: &[u64], probes: &[u64], rounds: u64) -> u64 {
             let mut map = filled(keys);
-            let mut sum = 0u64;
-            for round in 0..rounds {
-                for probe in probes {
-                    if let (place, Some(old)) = map.insert_full(*probe, *probe ^ round) {
-                        sum = sum.wrapping_add(old ^ place as u64);
-                    }
+            rounds!(rounds, probes, |sum, round, probe| {
+                if let (place, Some(old)) = map.insert_full(*probe, *probe ^ round) {
+                    sum = sum.wrapping_add(old ^ place as u64);
                 }
-            }
-            sum
+            })
         }
 
         #[inline(never)]
         pub fn swap_remove(keys: &[u64], probes: &[u64], rounds: u64) -> u64 {
             let mut map = filled(keys);
-            let mut sum = 0u64;
-            for round in 0..rounds {
-                for probe in probes {
-                    if let Some(value) = map.swap_remove(probe) {
-                        sum = sum.wrapping_add(value);
-                        map.insert(*probe, value ^ round);
-                    }
+            rounds!(rounds, probes, |sum, round, probe| {
+                if let Some(value) = map.swap_remove(probe) {
+                    sum = sum.wrapping_add(value);
+                    map.insert(*probe, value ^ round);
                 }
-            }
-            sum
+            })
         }
 
         #[inline(never)]
         pub fn remove_front(keys: &[u64], _: &[u64], rounds: u64) -> u64 {
             let full = filled(keys);
-            let mut sum = 0u64;
-            for round in 0..rounds {
+            rounds!(rounds, |sum, round| {
                 let mut map = full.clone();
                 for _ in keys {
                     if !map.is_empty() {
@@ -258,15 +209,13 @@ macro_rules! placed_loops {
                         sum = sum.wrapping_mul(31).wrapping_add(key ^ value ^ round);
                     }
                 }
-            }
-            sum
+            })
         }
 
         #[inline(never)]
         pub fn remove_middle(keys: &[u64], _: &[u64], rounds: u64) -> u64 {
             let full = filled(keys);
-            let mut sum = 0u64;
-            for round in 0..rounds {
+            rounds!(rounds, |sum, round| {
                 let mut map = full.clone();
                 for _ in keys {
                     let middle = map.len() / 2;
@@ -275,14 +224,12 @@ macro_rules! placed_loops {
                         sum = sum.wrapping_mul(31).wrapping_add(key ^ value ^ round);
                     }
                 }
-            }
-            sum
+            })
         }
 
         #[inline(never)]
         pub fn count_words(_: &[u64], words: &[u64], rounds: u64) -> u64 {
-            let mut sum = 0u64;
-            for round in 0..rounds {
+            rounds!(rounds, |sum, round| {
                 let mut map = $map::new();
                 for word in words {
                     map.entry(*word)
@@ -290,8 +237,7 @@ macro_rules! placed_loops {
                         .or_insert(round);
                 }
                 sum = sum.wrapping_add(mark(&map));
-            }
-            sum
+            })
         }
     };
 }

@@ -22,43 +22,33 @@ macro_rules! own_key_loops {
         #[inline(never)]
         pub fn symbol_insert(keys: &[u64], _: &[u64], rounds: u64) -> u64 {
             let keys = symbols(keys);
-            let mut sum = 0u64;
-            for round in 0..rounds {
+            rounds!(rounds, |sum, round| {
                 let map = symbol_filled(&keys);
                 sum = sum.wrapping_add(map.len() as u64 ^ round);
-            }
-            sum
+            })
         }
 
         #[inline(never)]
         pub fn symbol_get(keys: &[u64], probes: &[u64], rounds: u64) -> u64 {
             let map = symbol_filled(&symbols(keys));
             let probes = symbols(probes);
-            let mut sum = 0u64;
-            for round in 0..rounds {
-                for probe in probes.iter() {
-                    if let Some(value) = map.get(probe) {
-                        sum = sum.wrapping_add(*value ^ round);
-                    }
+            rounds!(rounds, probes.iter(), |sum, round, probe| {
+                if let Some(value) = map.get(probe) {
+                    sum = sum.wrapping_add(*value ^ round);
                 }
-            }
-            sum
+            })
         }
 
         #[inline(never)]
         pub fn symbol_remove(keys: &[u64], probes: &[u64], rounds: u64) -> u64 {
             let mut map = symbol_filled(&symbols(keys));
             let probes = symbols(probes);
-            let mut sum = 0u64;
-            for round in 0..rounds {
-                for probe in probes.iter() {
-                    if let Some(value) = map.$remove(probe) {
-                        sum = sum.wrapping_add(value);
-                        map.insert(*probe, value ^ round);
-                    }
+            rounds!(rounds, probes.iter(), |sum, round, probe| {
+                if let Some(value) = map.$remove(probe) {
+                    sum = sum.wrapping_add(value);
+                    map.insert(*probe, value ^ round);
                 }
-            }
-            sum
+            })
         }
 
         fn headers(text: &str) -> Vec<Header> {
@@ -84,12 +74,10 @@ macro_rules! own_key_loops {
             let Ok(keys) = str::from_utf8(keys) else {
                 return u64::MAX;
             };
-            let mut sum = 0u64;
-            for round in 0..rounds {
+            rounds!(rounds, |sum, round| {
                 let map = header_numbered(keys);
                 sum = sum.wrapping_add(map.len() as u64 ^ round);
-            }
-            sum
+            })
         }
 
         #[inline(never)]
@@ -99,15 +87,11 @@ macro_rules! own_key_loops {
             };
             let map = header_numbered(keys);
             let probes = headers(probes);
-            let mut sum = 0u64;
-            for round in 0..rounds {
-                for probe in probes.iter() {
-                    if let Some(value) = map.get(probe) {
-                        sum = sum.wrapping_add(*value ^ round);
-                    }
+            rounds!(rounds, probes.iter(), |sum, round, probe| {
+                if let Some(value) = map.get(probe) {
+                    sum = sum.wrapping_add(*value ^ round);
                 }
-            }
-            sum
+            })
         }
     };
 }
@@ -122,16 +106,12 @@ macro_rules! own_key_removals {
             };
             let mut map = header_numbered(keys);
             let probes = headers(probes);
-            let mut sum = 0u64;
-            for round in 0..rounds {
-                for probe in probes.iter() {
-                    if let Some((key, value)) = map.$remove_entry(probe) {
-                        sum = sum.wrapping_add(value);
-                        map.insert(key, value ^ round);
-                    }
+            rounds!(rounds, probes.iter(), |sum, round, probe| {
+                if let Some((key, value)) = map.$remove_entry(probe) {
+                    sum = sum.wrapping_add(value);
+                    map.insert(key, value ^ round);
                 }
-            }
-            sum
+            })
         }
     };
 }

@@ -13,30 +13,24 @@ macro_rules! set_loops {
 
         #[inline(never)]
         pub fn set_insert(items: &[u64], _: &[u64], rounds: u64) -> u64 {
-            let mut sum = 0u64;
-            for round in 0..rounds {
+            rounds!(rounds, |sum, round| {
                 let mut set = $set::new();
                 for item in items {
                     if set.insert(*item ^ round) {
                         sum = sum.wrapping_add(1);
                     }
                 }
-            }
-            sum
+            })
         }
 
         #[inline(never)]
         pub fn set_contains(items: &[u64], probes: &[u64], rounds: u64) -> u64 {
             let set = set_filled(items);
-            let mut sum = 0u64;
-            for round in 0..rounds {
-                for probe in probes {
-                    if set.contains(probe) {
-                        sum = sum.wrapping_add(*probe ^ round);
-                    }
+            rounds!(rounds, probes, |sum, round, probe| {
+                if set.contains(probe) {
+                    sum = sum.wrapping_add(*probe ^ round);
                 }
-            }
-            sum
+            })
         }
 
         #[inline(never)]
@@ -46,29 +40,23 @@ macro_rules! set_loops {
                 set.insert(half(*item));
             }
             let wanted: Vec<u32> = probes.iter().map(|probe| half(*probe)).collect();
-            let mut sum = 0u64;
-            for round in 0..rounds {
-                for probe in &wanted {
-                    if set.contains(probe) {
-                        sum = sum.wrapping_add(u64::from(*probe) ^ round);
-                    }
+            rounds!(rounds, &wanted, |sum, round, probe| {
+                if set.contains(probe) {
+                    sum = sum.wrapping_add(u64::from(*probe) ^ round);
                 }
-            }
-            sum
+            })
         }
 
         #[inline(never)]
         pub fn set_from_vec(items: &[u64], _: &[u64], rounds: u64) -> u64 {
-            let mut sum = 0u64;
-            for round in 0..rounds {
+            rounds!(rounds, |sum, round| {
                 let mut vec = Vec::with_capacity(items.len());
                 for item in items {
                     vec.push(*item);
                 }
                 let set = $from(vec);
                 sum = sum.wrapping_add(set.len() as u64 ^ round);
-            }
-            sum
+            })
         }
     };
 }
@@ -86,42 +74,36 @@ macro_rules! placed_set_loops {
         pub fn set_subset(items: &[u64], others: &[u64], rounds: u64) -> u64 {
             let mut set = set_filled(items);
             let other = set_filled(others);
-            let mut sum = 0u64;
-            for round in 0..rounds {
+            rounds!(rounds, |sum, round| {
                 turn(&mut set);
                 if set.is_subset(&other) {
                     sum = sum.wrapping_add(round);
                 }
-            }
-            sum
+            })
         }
 
         #[inline(never)]
         pub fn set_disjoint(items: &[u64], others: &[u64], rounds: u64) -> u64 {
             let mut set = set_filled(items);
             let other = set_filled(others);
-            let mut sum = 0u64;
-            for round in 0..rounds {
+            rounds!(rounds, |sum, round| {
                 turn(&mut set);
                 if set.is_disjoint(&other) {
                     sum = sum.wrapping_add(round);
                 }
-            }
-            sum
+            })
         }
 
         #[inline(never)]
         pub fn set_eq(items: &[u64], others: &[u64], rounds: u64) -> u64 {
             let mut set = set_filled(items);
             let other = set_filled(others);
-            let mut sum = 0u64;
-            for round in 0..rounds {
+            rounds!(rounds, |sum, round| {
                 turn(&mut set);
                 if set == other {
                     sum = sum.wrapping_add(round);
                 }
-            }
-            sum
+            })
         }
     };
 }

@@ -28,15 +28,11 @@ macro_rules! text_loops {
             };
             let map = numbered(keys);
             let probes = lines(probes);
-            let mut sum = 0u64;
-            for round in 0..rounds {
-                for probe in probes.iter() {
-                    if let Some(value) = map.get(probe.as_str()) {
-                        sum = sum.wrapping_add(*value ^ round);
-                    }
+            rounds!(rounds, probes.iter(), |sum, round, probe| {
+                if let Some(value) = map.get(probe.as_str()) {
+                    sum = sum.wrapping_add(*value ^ round);
                 }
-            }
-            sum
+            })
         }
 
         #[inline(never)]
@@ -46,15 +42,11 @@ macro_rules! text_loops {
             };
             let map = numbered(keys);
             let probes = lines(probes);
-            let mut sum = 0u64;
-            for round in 0..rounds {
-                for probe in probes.iter() {
-                    if let Some(value) = map.get(probe) {
-                        sum = sum.wrapping_add(*value ^ round);
-                    }
+            rounds!(rounds, probes.iter(), |sum, round, probe| {
+                if let Some(value) = map.get(probe) {
+                    sum = sum.wrapping_add(*value ^ round);
                 }
-            }
-            sum
+            })
         }
 
         #[inline(never)]
@@ -62,12 +54,10 @@ macro_rules! text_loops {
             let Ok(keys) = str::from_utf8(keys) else {
                 return u64::MAX;
             };
-            let mut sum = 0u64;
-            for round in 0..rounds {
+            rounds!(rounds, |sum, round| {
                 let map = numbered(keys);
                 sum = sum.wrapping_add(map.len() as u64 ^ round);
-            }
-            sum
+            })
         }
     };
 }
@@ -80,8 +70,7 @@ macro_rules! placed_text_loops {
             let Ok(text) = str::from_utf8(text) else {
                 return u64::MAX;
             };
-            let mut sum = 0u64;
-            for round in 0..rounds {
+            rounds!(rounds, |sum, round| {
                 let mut map = $map::new();
                 for line in text.lines() {
                     map.entry(line)
@@ -92,8 +81,7 @@ macro_rules! placed_text_loops {
                     sum = sum.wrapping_add(*n);
                 }
                 sum = sum.wrapping_add(map.len() as u64);
-            }
-            sum
+            })
         }
     };
 }
@@ -108,16 +96,12 @@ macro_rules! removed_text_loops {
             };
             let mut map = numbered(keys);
             let probes = lines(probes);
-            let mut sum = 0u64;
-            for round in 0..rounds {
-                for probe in probes.iter() {
-                    if let Some((key, value)) = map.remove_entry(probe.as_str()) {
-                        sum = sum.wrapping_add(value);
-                        map.insert(key, value ^ round);
-                    }
+            rounds!(rounds, probes.iter(), |sum, round, probe| {
+                if let Some((key, value)) = map.remove_entry(probe.as_str()) {
+                    sum = sum.wrapping_add(value);
+                    map.insert(key, value ^ round);
                 }
-            }
-            sum
+            })
         }
     };
 }

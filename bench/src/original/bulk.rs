@@ -6,15 +6,13 @@ use vecmap::VecMap;
 /// The original does not count, but for distinct keys the number of comparisons is known.
 #[inline(never)]
 pub fn from_vec_counted(keys: &[u64], _: &[u64], rounds: u64) -> u64 {
-    let mut sum = 0u64;
-    for round in 0..rounds {
+    rounds!(rounds, |sum, round| {
         let map = VecMap::from(pairs(keys));
         let n = keys.len() as u64;
         sum = sum
             .wrapping_add(mark(&map) ^ round)
             .wrapping_add(n * (n - 1) / 2);
-    }
-    sum
+    })
 }
 
 // Each key moves to the index that its number gives.
@@ -41,64 +39,83 @@ pub fn insert_at_present(keys: &[u64], probes: &[u64], rounds: u64) -> u64 {
 // Each key is new and is inserted in the middle.
 #[inline(never)]
 pub fn insert_at_absent(keys: &[u64], _: &[u64], rounds: u64) -> u64 {
-    let mut sum = 0u64;
-    for round in 0..rounds {
+    rounds!(rounds, |sum, round| {
         let mut map = VecMap::with_capacity(keys.len());
         for key in keys {
             let middle = map.len() / 2;
             map.insert_at(middle, *key, *key ^ round);
         }
         sum = sum.wrapping_add(mark(&map));
-    }
-    sum
+    })
 }
 
 // The original has no insertion by a query. Of numbers, `entry` is the same.
 #[inline(never)]
 pub fn index_or_insert(keys: &[u64], probes: &[u64], rounds: u64) -> u64 {
     let mut map = filled(keys);
-    let mut sum = 0u64;
-    for round in 0..rounds {
-        for probe in probes {
-            let value = map.entry(*probe).or_insert(round);
-            sum = sum.wrapping_add(*value);
-            *value ^= round;
-        }
-    }
-    sum
+    rounds!(rounds, probes, |sum, round, probe| {
+        let value = map.entry(*probe).or_insert(round);
+        sum = sum.wrapping_add(*value);
+        *value ^= round;
+    })
 }
 
 // The original has no call that moves a pair. Its user removes it, and inserts it again.
 #[inline(never)]
 pub fn move_index(keys: &[u64], probes: &[u64], rounds: u64) -> u64 {
     let mut map = filled(keys);
-    let mut sum = 0u64;
-    for round in 0..rounds {
-        for probe in probes {
-            if !map.is_empty() {
-                let (key, value) = map.remove_index(0);
-                map.insert_at(map.len(), key, value);
-            }
-            if let Some((key, _)) = map.first() {
-                sum = sum.wrapping_add(*key ^ *probe ^ round);
-            }
+    rounds!(rounds, probes, |sum, round, probe| {
+        if !map.is_empty() {
+            let (key, value) = map.remove_index(0);
+            map.insert_at(map.len(), key, value);
         }
-    }
-    sum
+        if let Some((key, _)) = map.first() {
+            sum = sum.wrapping_add(*key ^ *probe ^ round);
+        }
+    })
+}
+
+#[inline(never)]
+pub fn first_value_mut(keys: &[u64], probes: &[u64], rounds: u64) -> u64 {
+    let mut map = filled(keys);
+    rounds!(rounds, probes, |sum, round, probe| {
+        if let Some((_, value)) = map.first_mut() {
+            sum = sum.wrapping_add(*value);
+            *value = *value ^ *probe ^ round;
+        }
+    })
+}
+
+#[inline(never)]
+pub fn pair_mut(keys: &[u64], probes: &[u64], rounds: u64) -> u64 {
+    let mut map = filled(keys);
+    rounds!(rounds, probes, |sum, round, probe| {
+        let index = ((*probe >> 32).wrapping_mul(keys.len() as u64) >> 32) as usize;
+        if let Some((key, value)) = map.get_index_mut(index) {
+            sum = sum.wrapping_add(*key ^ *value);
+            *value = *value ^ round;
+        }
+    })
+}
+
+#[inline(never)]
+pub fn from_iter_mapped(keys: &[u64], _: &[u64], rounds: u64) -> u64 {
+    rounds!(rounds, |sum, round| {
+        let map = VecMap::from_iter(keys.iter().map(|key| (*key, key.wrapping_mul(3))));
+        sum = sum.wrapping_add(mark(&map) ^ round);
+    })
 }
 
 #[inline(never)]
 pub fn append(keys: &[u64], probes: &[u64], rounds: u64) -> u64 {
     let full = filled(keys);
     let others = filled(probes);
-    let mut sum = 0u64;
-    for round in 0..rounds {
+    rounds!(rounds, |sum, round| {
         let mut map = full.clone();
         let mut other = others.clone();
         map.append(&mut other);
         sum = sum.wrapping_add(mark(&map) ^ round);
-    }
-    sum
+    })
 }
 
 // Reads the map in a call, so that the compiler cannot drop pairs that nothing reads.
@@ -110,26 +127,22 @@ fn read(map: &VecMap<u64, u64>) -> u64 {
 // The original has no call for a key that is known to be new.
 #[inline(never)]
 pub fn insert_unique(keys: &[u64], _: &[u64], rounds: u64) -> u64 {
-    let mut sum = 0u64;
-    for round in 0..rounds {
+    rounds!(rounds, |sum, round| {
         let mut map = VecMap::new();
         for key in 0..keys.len() as u64 {
             map.insert(key, key ^ round);
         }
         sum = sum.wrapping_add(read(&map));
-    }
-    sum
+    })
 }
 
 #[inline(never)]
 pub fn insert_unique_reserved(keys: &[u64], _: &[u64], rounds: u64) -> u64 {
-    let mut sum = 0u64;
-    for round in 0..rounds {
+    rounds!(rounds, |sum, round| {
         let mut map = VecMap::with_capacity(keys.len());
         for key in 0..keys.len() as u64 {
             map.insert(key, key ^ round);
         }
         sum = sum.wrapping_add(read(&map));
-    }
-    sum
+    })
 }

@@ -40,12 +40,10 @@ pub fn document_new(lines: &[u8], _: &[u8], rounds: u64) -> u64 {
     let Ok(lines) = str::from_utf8(lines) else {
         return u64::MAX;
     };
-    let mut sum = 0u64;
-    for round in 0..rounds {
+    rounds!(rounds, |sum, round| {
         let document = document_filled(lines);
         sum = sum.wrapping_add(document.len() as u64 ^ round);
-    }
-    sum
+    })
 }
 
 #[inline(never)]
@@ -54,11 +52,9 @@ pub fn document_present(lines: &[u8], _: &[u8], rounds: u64) -> u64 {
         return u64::MAX;
     };
     let mut document = document_filled(lines);
-    let mut sum = 0u64;
-    for round in 0..rounds {
+    rounds!(rounds, |sum, round| {
         sum = sum.wrapping_add(set_all(&mut document, lines) ^ round);
-    }
-    sum
+    })
 }
 
 #[inline(never)]
@@ -68,15 +64,11 @@ pub fn document_get(lines: &[u8], probes: &[u8], rounds: u64) -> u64 {
     };
     let document = document_filled(lines);
     let probes = names(probes);
-    let mut sum = 0u64;
-    for round in 0..rounds {
-        for probe in probes.iter() {
-            if let Some(text) = document.get(&probe.0, &probe.1) {
-                sum = sum.wrapping_add(text.len() as u64 ^ round);
-            }
+    rounds!(rounds, probes.iter(), |sum, round, probe| {
+        if let Some(text) = document.get(&probe.0, &probe.1) {
+            sum = sum.wrapping_add(text.len() as u64 ^ round);
         }
-    }
-    sum
+    })
 }
 
 #[inline(never)]
@@ -84,14 +76,12 @@ pub fn document_merge(lines: &[u8], others: &[u8], rounds: u64) -> u64 {
     let (Ok(lines), Ok(others)) = (str::from_utf8(lines), str::from_utf8(others)) else {
         return u64::MAX;
     };
-    let mut sum = 0u64;
-    for round in 0..rounds {
+    rounds!(rounds, |sum, round| {
         let mut document = document_filled(lines);
         let mut other = document_filled(others);
         document.merge(&mut other);
         sum = sum.wrapping_add(document.len() as u64 ^ round);
-    }
-    sum
+    })
 }
 
 // A text is written in each round, so that the compiler cannot compare once for all rounds.
@@ -102,14 +92,12 @@ pub fn document_same(lines: &[u8], others: &[u8], rounds: u64) -> u64 {
     };
     let mut document = document_filled(lines);
     let mut other = document_filled(others);
-    let mut sum = 0u64;
-    for round in 0..rounds {
+    rounds!(rounds, |sum, round| {
         let text = if round & 1 == 0 { "even" } else { "odd" };
         document.set(name("turn"), name("turn"), String::from(text));
         other.set(name("turn"), name("turn"), String::from(text));
         if document.same(&other) {
             sum = sum.wrapping_add(round);
         }
-    }
-    sum
+    })
 }

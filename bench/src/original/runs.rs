@@ -17,8 +17,7 @@ pub fn of_index(place: Option<usize>) -> u64 {
 
 #[inline(never)]
 pub fn calls(_: &[u64], words: &[u64], rounds: u64) -> u64 {
-    let mut sum: u64 = 0;
-    for round in 0..rounds {
+    rounds!(rounds, |sum, round| {
         let mut map: VecMap<u64, u64> = VecMap::new();
         for word in words {
             let word = *word;
@@ -33,8 +32,7 @@ pub fn calls(_: &[u64], words: &[u64], rounds: u64) -> u64 {
             };
             sum = sum.wrapping_mul(31).wrapping_add(answer ^ round);
         }
-    }
-    sum
+    })
 }
 
 /// Calls on a map, as values, as `vecmap::MapCommand` has them.
@@ -207,8 +205,7 @@ fn of_reply(reply: &MapReply<u64, u64>) -> u64 {
 
 #[inline(never)]
 pub fn run(_: &[u64], words: &[u64], rounds: u64) -> u64 {
-    let mut sum: u64 = 0;
-    for round in 0..rounds {
+    rounds!(rounds, |sum, round| {
         let mut map: VecMap<u64, u64> = VecMap::new();
         let mut commands = Vec::with_capacity(words.len());
         for word in words {
@@ -218,6 +215,5 @@ pub fn run(_: &[u64], words: &[u64], rounds: u64) -> u64 {
         for reply in replies.iter() {
             sum = sum.wrapping_mul(31).wrapping_add(of_reply(reply) ^ round);
         }
-    }
-    sum
+    })
 }

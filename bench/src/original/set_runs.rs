@@ -4,8 +4,7 @@ use vecmap::VecSet;
 
 #[inline(never)]
 pub fn set_calls(_: &[u64], words: &[u64], rounds: u64) -> u64 {
-    let mut sum: u64 = 0;
-    for round in 0..rounds {
+    rounds!(rounds, |sum, round| {
         let mut set: VecSet<u64> = VecSet::new();
         for word in words {
             let word = *word;
@@ -20,8 +19,7 @@ pub fn set_calls(_: &[u64], words: &[u64], rounds: u64) -> u64 {
             };
             sum = sum.wrapping_mul(31).wrapping_add(answer ^ round);
         }
-    }
-    sum
+    })
 }
 
 /// Calls on a set, as values, as `vecmap::SetCommand` has them.
@@ -179,8 +177,7 @@ fn of_reply(reply: &SetReply<u64>) -> u64 {
 
 #[inline(never)]
 pub fn set_run(_: &[u64], words: &[u64], rounds: u64) -> u64 {
-    let mut sum: u64 = 0;
-    for round in 0..rounds {
+    rounds!(rounds, |sum, round| {
         let mut set: VecSet<u64> = VecSet::new();
         let mut commands = Vec::with_capacity(words.len());
         for word in words {
@@ -190,6 +187,5 @@ pub fn set_run(_: &[u64], words: &[u64], rounds: u64) -> u64 {
         for reply in replies.iter() {
             sum = sum.wrapping_mul(31).wrapping_add(of_reply(reply) ^ round);
         }
-    }
-    sum
+    })
 }

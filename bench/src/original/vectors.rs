@@ -4,34 +4,29 @@ use super::pairs;
 #[inline(never)]
 pub fn vec_clone(keys: &[u64], _: &[u64], rounds: u64) -> u64 {
     let full = pairs(keys);
-    let mut sum: u64 = 0;
-    for round in 0..rounds {
+    rounds!(rounds, |sum, round| {
         let copy = full.clone();
         sum = sum.wrapping_add(last_key(&copy) ^ round);
-    }
-    sum
+    })
 }
 
 // The pairs are appended to an empty vector.
 #[inline(never)]
 pub fn vec_push(keys: &[u64], _: &[u64], rounds: u64) -> u64 {
-    let mut sum: u64 = 0;
-    for round in 0..rounds {
+    rounds!(rounds, |sum, round| {
         let mut list = Vec::new();
         for key in keys {
             list.push((*key, *key ^ round));
         }
         sum = sum.wrapping_add(last_key(&list) ^ round);
-    }
-    sum
+    })
 }
 
 // All pairs of a clone are removed, from the front.
 #[inline(never)]
 pub fn vec_remove(keys: &[u64], _: &[u64], rounds: u64) -> u64 {
     let full = pairs(keys);
-    let mut sum: u64 = 0;
-    for round in 0..rounds {
+    rounds!(rounds, |sum, round| {
         let mut list = full.clone();
         for _ in 0..keys.len() {
             if !list.is_empty() {
@@ -39,39 +34,32 @@ pub fn vec_remove(keys: &[u64], _: &[u64], rounds: u64) -> u64 {
                 sum = sum.wrapping_mul(3).wrapping_add(key ^ value ^ round);
             }
         }
-    }
-    sum
+    })
 }
 
 // The pairs are inserted at the front of an empty vector.
 #[inline(never)]
 pub fn vec_insert(keys: &[u64], _: &[u64], rounds: u64) -> u64 {
-    let mut sum: u64 = 0;
-    for round in 0..rounds {
+    rounds!(rounds, |sum, round| {
         let mut list = Vec::new();
         for key in keys {
             list.insert(0, (*key, *key ^ round));
         }
         sum = sum.wrapping_add(last_key(&list) ^ round);
-    }
-    sum
+    })
 }
 
 // Pairs of 136 bytes are removed and appended again.
 #[inline(never)]
 pub fn vec_remove_large(keys: &[u64], probes: &[u64], rounds: u64) -> u64 {
     let mut list: Vec<(u64, [u64; 16])> = keys.iter().map(|key| (*key, [*key; 16])).collect();
-    let mut sum: u64 = 0;
-    for round in 0..rounds {
-        for probe in probes {
-            if let Some(index) = list.iter().position(|pair| pair.0 == *probe) {
-                let pair = list.remove(index);
-                sum = sum.wrapping_add(pair.1[3] ^ round);
-                list.push(pair);
-            }
+    rounds!(rounds, probes, |sum, round, probe| {
+        if let Some(index) = list.iter().position(|pair| pair.0 == *probe) {
+            let pair = list.remove(index);
+            sum = sum.wrapping_add(pair.1[3] ^ round);
+            list.push(pair);
         }
-    }
-    sum
+    })
 }
 
 // Returns the key of the last pair, and 0 if there is none.
