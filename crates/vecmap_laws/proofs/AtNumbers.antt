@@ -1,15 +1,17 @@
 -- The lemmas of the rulesets of lookups and of members, at numbers: `grind` sees the `==` of numbers as it computes, so it
 -- matches a lemma that is stated of it, and not one of any `==`.
-use Rattle.std.specs.{Cmp.nat_eq_equiv, List.IsDistinct, List.Sorted.SwapsInRange, List.Sorted.apply_swaps, Option.option_or, Set.is_member}
-use Rattle.std.proofs.Common.{◌≡◌, ◌<◌, ◌&&◌, ◌||◌, not, ℕ, false, List, None, Some, IsTrue, eqb-true, if◌then◌else◌, is_some, take, drop, length, nat_eq, reverse, swap}
+use Rattle.std.specs.{Cmp.nat_eq_equiv, List.IsDistinct, List.Sorted.SwapsInRange, List.Sorted.apply_swaps, Map.keys_of, Option.{option_and_then, option_or}, Set.is_member}
+use Rattle.std.proofs.Common.{◌≡◌, ◌∙◌, ◌++◌, ◌∷◌, ◌<◌, ◌&&◌, ◌||◌, not, ℕ, false, List, None, Some, IsTrue, ap, arith, eqb-true, if◌then◌else◌, is_some, take, drop, length, nat_eq, reverse, slice_get, swap, sym}
+use Rattle.std.proofs.lemmas.Grind.{common_steps}
 use Rattle.std.specs.Prelude.{nat_lt}
 use Rattle.vecmap_base.specs.{Items.{add, adds, swap_without_item, without_item}, Equality.has_same_counts}
-use Rattle.vecmap_base.specs.Pairs.{HasDistinctKeys, index_of, index_or_length, lookup, put, put_at, put_key, puts, swap_without_key, without_key}
-use Rattle.vecmap_laws.proofs.{AfterPuts.{lookup_put_any, lookup_puts_distinct, lookup_without_any}, DistinctParts.distinct_keys_drop}
+use Rattle.vecmap_base.specs.Pairs.{HasDistinctKeys, index_of, index_or_length, lookup, put, put_at, put_key, puts, swap_without_key, value_at, without_key}
+use Rattle.vecmap_base.proofs.PairsLemmas.ByIndex.{index_by_is, lookup_by_index}
+use Rattle.vecmap_laws.proofs.{AfterPuts.{index_of_without_key, lookup_put_any, lookup_puts_distinct, lookup_without_any}, DistinctParts.distinct_keys_drop}
 use Rattle.vecmap_laws.proofs.DistinctKeys.{distinct_keys_swap_without_key, distinct_keys_take, distinct_put, distinct_put_at, distinct_put_key, distinct_puts}
 use Rattle.vecmap_laws.proofs.{Equations.put_put, ItemMembers.{is_member_add, is_member_adds}, MapEquality.lookups_of_equal}
 use Rattle.vecmap_laws.proofs.Finds.{distinct_keys_reverse, distinct_swapped, distinct_without_key, is_member_swap_without, is_member_without, lookup_drop, lookup_put_at_any, lookup_put_key_any, lookup_reverse, lookup_swap, lookup_swap_without_key, lookup_swapped, lookup_take, present}
-use Rattle.vecmap_laws.proofs.{Lookups.{lookup_without_key, lookup_without_key_other}, Puts.puts_restore}
+use Rattle.vecmap_laws.proofs.{Lookups.{lookup_without_key, lookup_without_key_other}, NewKeys.absent_among, OtherPairs.{put_back, without_absent}, Puts.puts_restore, RemovalLemmas.passing_at}
 
 module _ {V : Type 0} where
   pub lookup_put_of_numbers : (l : List (ℕ × V)) (k : ℕ) (v : V) (q : ℕ) → lookup nat_eq (put nat_eq l k v) q ≡ (if nat_eq k q then Some v else lookup nat_eq l q)
@@ -53,6 +55,17 @@ module _ {V : Type 0} where
 
   pub present_of_numbers : (l : List (ℕ × V)) (q : ℕ) → is_some (index_of nat_eq l q) ≡ is_some (lookup nat_eq l q)
   present_of_numbers = present nat_eq
+
+  pub absent_among_numbers : {W : Type 0} (l : List (ℕ × V)) (k : ℕ) (ks : List ℕ) (all : List (ℕ × W)) → keys_of l ++ k ∷ ks ≡ keys_of all → HasDistinctKeys nat_eq all → lookup nat_eq l k ≡ None
+  absent_among_numbers l k ks all e d = absent_among nat_eq l k ks all e d nat_eq_equiv
+
+  -- A pair that is removed and placed at its index again restores the list.
+  pub restored_of_numbers : (l : List (ℕ × V)) (i k : ℕ) (v : V) → HasDistinctKeys nat_eq l → index_of nat_eq l k ≡ Some i → lookup nat_eq l k ≡ Some v → put_at nat_eq (without_key nat_eq l k) i k v ≡ l
+  restored_of_numbers l i k v d at is =
+      let stored = passing_at (λ p. nat_eq k p.0) l i (sym (index_by_is (nat_eq k) l) ∙ at) in
+      let value : Some v ≡ value_at l i = sym is ∙ lookup_by_index (nat_eq k) l ∙ ap (option_and_then (value_at l)) at in
+      let there : slice_get l i ≡ Some (k, v) = grind (arith, common_steps, value, stored.1, eqb-true k stored.0.0 stored.2) in
+      put_back nat_eq l (without_key nat_eq l k) i k v at there (without_absent nat_eq (without_key nat_eq l k) k (index_of_without_key nat_eq nat_eq_equiv l k d))
 
   pub puts_restore_of_numbers : (l : List (ℕ × V)) (n : ℕ) → HasDistinctKeys nat_eq l → puts nat_eq (take n l) (drop n l) ≡ l
   puts_restore_of_numbers = puts_restore nat_eq nat_eq_equiv

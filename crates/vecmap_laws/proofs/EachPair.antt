@@ -1,7 +1,7 @@
 -- What holds of each pair, and which pairs a test selects, after a change of one pair.
-use Rattle.std.proofs.Common.{◌≡◌, All, Bool, true, false, List, [], ◌∷◌, IfSome, Some, ap, filter, if◌then◌else◌, refl}
-use Rattle.std.proofs.lemmas.List.Elements.{All-cons, All-head, All-tail}
-use Rattle.vecmap_base.specs.Pairs.{lookup_by, without_by}
+use Rattle.std.proofs.Common.{◌≡◌, All, Bool, true, false, List, [], ◌∷◌, IfSome, Some, ap, arith, filter, if◌then◌else◌, refl}
+use Rattle.std.{proofs.lemmas.{Grind.common_steps, List.Elements.{All-cons, All-head, All-tail}}, specs.{Map.set_value, Option.option_map}}
+use Rattle.vecmap_base.specs.Pairs.{lookup_by, map_values, without_by}
 use Rattle.vecmap_map.specs.Contents.{Contents, with_value_by}
 use Rattle.vecmap_laws.proofs.WriteLemmas.{written_back}
 
@@ -40,3 +40,12 @@ module _ {K V : Type 0} (test : K → Bool) where
   -- A value that is written over itself, as by a `get_mut` whose reference wrote nothing, leaves the map.
   pub nothing_written : (m : Contents K V) (v : V) → lookup_by test m.entries ≡ Some v → with_value_by test m v ≡ m
   nothing_written = written_back test
+
+  -- Nor does a write change what `g` tells of the values, if it tells the same of both.
+  pub same_values : {W : Type 0} (g : V → W) (l : List (K × V)) (v : V) → option_map g (lookup_by test l) ≡ Some (g v) → map_values g (set_value test l v) ≡ map_values g l
+  same_values g [] v e = refl
+  same_values {W} g (p ∷ ps) v e = by (test p.0) e (same_values g ps v)
+    where
+      by : (b : Bool) → option_map g (if b then Some p.1 else lookup_by test ps) ≡ Some (g v) → (option_map g (lookup_by test ps) ≡ Some (g v) → map_values g (set_value test ps v) ≡ map_values g ps) → map_values g (if b then (p.0, v) ∷ ps else p ∷ set_value test ps v) ≡ map_values g (p ∷ ps)
+      by true same rest = grind (arith, common_steps, same)
+      by false same rest = ap (λ l. (p.0, g p.1) ∷ l) (rest same)

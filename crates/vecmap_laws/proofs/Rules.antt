@@ -1,10 +1,10 @@
 -- Lemmas for common goals, in lists that a function names by `using(vecmap_laws::proofs::Rules::..)`.
 use Rattle.std.specs.{Prelude.{◌≡◌, Bool, Err, List, Ok, OnErr, Result, []}, List.IsDistinct}
-use Rattle.std.proofs.Common.{subst, sym}
+use Rattle.std.proofs.{Common.{subst, sym}, lemmas.Map.Steps.lookup-le-sum}
 use Rattle.vecmap_base.specs.Pairs.{HasDistinctKeys}
 use Rattle.vecmap_base.proofs.{DistinctLemmas.Absent.distinct_none, DistinctLemmas.Additions.{distinct_add, distinct_adds}}
 use Rattle.vecmap_base.proofs.{PairsLemmas.Keys.{keys_of_put, keys_of_puts}, WalkLemmas.drained_all}
-use Rattle.vecmap_laws.proofs.{AlgebraLemmas.is_member_of_collected, AtNumbers.{lookups_of_equal_numbers, put_put_of_numbers}}
+use Rattle.vecmap_laws.proofs.{AlgebraLemmas.is_member_of_collected, AtNumbers.{absent_among_numbers, lookups_of_equal_numbers, put_put_of_numbers, restored_of_numbers}}
 use Rattle.vecmap_laws.proofs.AfterPuts.{index_of_congr, index_of_put, lookup_put_any, lookup_puts_distinct, lookup_without_any}
 use Rattle.vecmap_laws.proofs.{AtTexts.{lookups_of_equal_texts, put_put_of_texts}, DistinctParts.{distinct_keys_drop, distinct_keys_filter}}
 pub use Rattle.vecmap_laws.proofs.AtNumbers.{lookups_at_numbers, members_at_numbers}
@@ -12,8 +12,8 @@ pub use Rattle.vecmap_laws.proofs.AtTexts.{texts}
 use Rattle.vecmap_laws.proofs.{CloneEquality.{clones_equal, equal_to_itself, equal_to_itself_at_numbers, same_clones}, Equations.put_put}
 use Rattle.vecmap_laws.proofs.SearchedMaps.{inserted_new, search_finds, search_finds_at_numbers, sorted_after, sorted_after_at_numbers}
 use Rattle.vecmap_laws.proofs.DistinctKeys.{distinct_keys_remove, distinct_keys_swap_without_key, distinct_keys_take, distinct_put, distinct_put_at, distinct_put_key, distinct_puts}
-use Rattle.vecmap_laws.proofs.{EachPair.{all_without, filter_without, nothing_written}, EachValue.holds_after_put, Puts.puts_restore}
-use Rattle.vecmap_laws.proofs.{NewKeys.{absent_before, new_above}, ItemMembers.{is_member_add, is_member_adds}, IndicesAfter.index_by_take}
+use Rattle.vecmap_laws.proofs.{EachPair.{all_without, filter_without, nothing_written, same_values}, EachValue.holds_after_put, Puts.puts_restore}
+use Rattle.vecmap_laws.proofs.{NewKeys.{absent_among, absent_before, new_above}, ItemMembers.{is_member_add, is_member_adds}, IndicesAfter.index_by_take}
 use Rattle.vecmap_laws.proofs.Finds.{distinct_keys_reverse, distinct_swapped, distinct_without_key, is_member_swap_without, is_member_without, lookup_drop, lookup_put_at_any, lookup_put_key_any, lookup_reverse, lookup_swap, lookup_swap_without_key, lookup_swapped, lookup_take, present}
 use Rattle.vecmap_laws.proofs.{LoopLemmas.{key_stays, keys_written}, Lookups.lookup_without_key_other, Queries.lookup_put_any_query, ItemIndices.{item_index_add, slice_get_add}}
 
@@ -66,10 +66,10 @@ pub ruleset lookups = (of_one_key, of_orders, of_many, of_parts, of_places)
 -- Which elements are present in a set.
 pub ruleset members = (is_member_add, is_member_adds, is_member_without, is_member_swap_without)
 
--- Insertions of one key, one after the other.
+-- Changes of one key, one after the other.
 pub ruleset puts = (put_put)
 
-pub ruleset puts_at_numbers = (put_put_of_numbers)
+pub ruleset puts_at_numbers = (put_put_of_numbers, restored_of_numbers)
 
 pub ruleset puts_at_texts = (put_put_of_texts)
 
@@ -95,11 +95,12 @@ pub ruleset collected = (is_member_of_collected)
 -- What `extend` by another map, passed by value, leaves.
 pub ruleset extended = (drained_all)
 
--- A new key: a number above all keys, and a key that comes later in a list of distinct keys.
-pub ruleset new_keys = (new_above, absent_before)
+-- A new key: a number above all keys, and a key that comes later in a list of distinct keys, or in that of another map.
+pub ruleset new_keys = (new_above, absent_before, absent_among, absent_among_numbers)
 
--- What holds of each pair, and which pairs a test selects, after a change of one pair.
-pub ruleset each = (all_without, filter_without, holds_after_put, nothing_written)
+-- What holds of each pair, which pairs a test selects, and what a function tells of the values, after a change of one
+-- pair. A value is at most the sum.
+pub ruleset each = (all_without, filter_without, holds_after_put, lookup-le-sum, nothing_written, same_values)
 
 -- What lookups find in equal maps.
 pub ruleset equal_at_numbers = (lookups_of_equal_numbers)
