@@ -1,8 +1,8 @@
 #!/usr/bin/env python3
-"""Counts the instructions of an operation by valgrind, which are the same at each address: instructions.py PROGRAM [SIZE..]
+"""Counts the instructions of an operation by valgrind, which no address changes: instructions.py PROGRAM [SIZE..]
 
-PROGRAM is the `time` that `bench/run` links, with its RESULTS. A line of the output has a row, a size, and the instructions of
-this library, of vecmap-rs and of an earlier state, if there is one. It is a line of `bench/figures.tsv`.
+PROGRAM is the `time` that `bench/run` puts into RESULTS. A line of the output has a row, a size, and the instructions
+of this library, of vecmap-rs and of an earlier state, if there is one. `bench/table.py --write` takes these lines.
 """
 import os
 import re

@@ -11,12 +11,14 @@
 //!   writes its value; the original's side has `entry`. `move_index` moves the first pair to the back; the original's
 //!   side has `remove_index` and `insert_at`, or `insert` of sets. Beside `first_value_mut` and `pair_mut` are `first_mut`
 //!   and `get_index_mut`.
-//! - Removals: `remove_index` removes all pairs of a clone. `retain`, `drain` and `split_off` remove half of a clone.
-//!   `retain all` removes nothing of it, and `drain all` removes all of it from the back. The times include the
-//!   clone. `retain others` and `drain either half` remove other pairs in each round, which no branch predictor knows.
-//! - Bulk: `From<Vec>` and `from_iter` take a vector of pairs that is created in the loop, with distinct keys or with
-//!   about four pairs for each key. `mapped` is an iterator over a slice. `From<Vec> counted` compares `from_vec_counted` with the original's `From`.
-//!   `extend` and `append` insert as many pairs as a clone has, half of them with existing keys, into that clone.
+//! - Removals: `remove_index` removes all pairs of a clone. `retain`, `drain` and `split_off` remove half of a
+//!   clone. `retain all` removes nothing of it, and `drain all` removes all of it from the back. The times include
+//!   the clone. `retain others` and `drain either half` remove other pairs in each round, which no branch predictor
+//!   knows.
+//! - Bulk: `From<Vec>` and `from_iter` take a vector of pairs that is created in the loop, with distinct keys or
+//!   with about four pairs for each key. `mapped` is an iterator over a slice. `From<Vec> counted` compares
+//!   `from_vec_counted` with the original's `From`. `extend` and `append` insert as many pairs as a clone has, half
+//!   of them with existing keys, into that clone.
 //! - Equality: before each comparison, one value of each map is written, or two elements of a set are swapped, so
 //!   that the compiler cannot compare once for all rounds.
 //! - Iteration: a checksum of all pairs, from the front, the back, or both ends alternately.
