@@ -7,6 +7,7 @@ pub use Rattle.vecmap_base.specs.Comparisons
 pub use Rattle.vecmap_base.specs.Drain as Drains
 pub use Rattle.vecmap_base.specs.Equality
 pub use Rattle.vecmap_base.specs.Indices
+pub use Rattle.vecmap_base.specs.Insertions
 pub use Rattle.vecmap_base.specs.Items
 pub use Rattle.vecmap_base.specs.Iterators
 pub use Rattle.vecmap_base.specs.Kept
@@ -14,6 +15,8 @@ pub use Rattle.vecmap_base.specs.Lookups
 pub use Rattle.vecmap_base.specs.Orders
 pub use Rattle.vecmap_base.specs.Pairs
 pub use Rattle.vecmap_base.specs.Ranges
+pub use Rattle.vecmap_base.specs.Removals
+pub use Rattle.vecmap_base.specs.Reorders
 pub use Rattle.vecmap_base.specs.Updated
 pub use Rattle.vecmap_map.specs.Contents
 pub use Rattle.vecmap_map.specs.Drain
@@ -24,7 +27,10 @@ pub use Rattle.vecmap_map.specs.MapBulk
 pub use Rattle.vecmap_set.specs.Contents as SetContents
 pub use Rattle.vecmap_set.specs.Drain as SetDrain
 pub use Rattle.vecmap_set.specs.Indices as SetIndices
+pub use Rattle.vecmap_set.specs.Insertions as SetInsertions
 pub use Rattle.vecmap_set.specs.Lazy
 pub use Rattle.vecmap_set.specs.Operators
+pub use Rattle.vecmap_set.specs.Removals as SetRemovals
+pub use Rattle.vecmap_set.specs.Reorders as SetReorders
 pub use Rattle.vecmap_set.specs.SetBulk
 pub use Rattle.vecmap_set.specs.Tests as SetTests
