@@ -124,10 +124,12 @@ def dependencies():
 
 
 @functools.cache
-def definitions(path):
-    """Returns the public definitions of a file, each below the heads of the modules that it is in."""
+def definitions(path, also_private=False):
+    """Returns the public definitions of a file, or all, each below the heads of the modules that it is in."""
     text, made = read(path), []
-    for found in DEFINITION.finditer(text):
+    private = r"^( *)(?:abbrev pub|(?:unfoldable )?pub(?: record| data)?) (?!mod |use )"
+    form = re.compile(DEFINITION.pattern.replace(private, r"^( *)(?:(?:abbrev|unfoldable|record|data|pub) )*(?!(?:mod|use|module|pub|abbrev|where)\b)"), re.MULTILINE)
+    for found in (form if also_private else DEFINITION).finditer(text):
         comment, indent, name = found.groups()
         start, heads, depth = found.start(2), [], len(indent)
         for space, head in reversed(re.findall("^( *)(module .*)", text[:start], re.MULTILINE)):
