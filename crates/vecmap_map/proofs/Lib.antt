@@ -1,4 +1,5 @@
 pub mod EntryLemmas
 mod LentLemmas
 pub mod ContentsLemmas
+pub mod KeptValues
 pub mod MadeLemmas

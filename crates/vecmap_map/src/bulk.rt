@@ -1,7 +1,7 @@
 //! Creation of a map from many pairs, and insertion of many pairs.
-ghost use Rattle.std.specs.Prelude.{◌≡◌, ◌++◌, ◌<◌, ◌+◌, ◌≤◌, ◌/◌, IfOk, IsOk, List, None, OnErr, OnOk, [], if◌then◌else◌, length};
-ghost use Rattle.std.specs.{Iterator.{Drains, ExtendsWithItems, IsFiniteIterable}, Map.Iter.{deref, deref_pair}};
-ghost use Rattle.vecmap_base.specs.{Bulk.{HasRoomForAll, HoldsOfEach, YieldsAll}, Clones.ClonesSucceed};
+ghost use Rattle.std.specs.Prelude.{◌≡◌, ◌++◌, ◌<◌, ◌+◌, ◌≤◌, ◌/◌, IfOk, IsOk, List, None, OnErr, OnOk, [], if◌then◌else◌, length, map};
+ghost use Rattle.std.specs.{Iterator.{Drains, ExtendsWithItems, IsFiniteIterable}, Iterator.Runs.WholeRun, Map.Iter.{deref, deref_pair}};
+ghost use Rattle.vecmap_base.specs.{Bulk.{HasRoomForAll, HoldsOfEach}, Clones.{ClonesAreSame, ClonesSucceed}};
 ghost use Rattle.vecmap_base.specs.{Lookups.{Joins, MakesPairs}, Pairs.{HasDistinctKeys, put, puts}};
 ghost use Rattle.vecmap_map.specs.Contents.{HasRoom, KeepsRoomAt, Refuses, with_entries};
 ghost use Rattle.vecmap_map.specs.MapBulk.{Extends, MakesClones, Puts, PutsClones, RefusesAfter, RefusesClonesAfter};
@@ -47,9 +47,8 @@ impl<K, V> VecMap<K, V> {
             × (map.entries ≡ puts K.eq [] pairs)) }
 
         // What follows for lookups, lengths and indices.
-        ensures made { (pairs : List (K × V))
-            → YieldsAll I.into_iter_gives I.IntoIter.next_gives iter pairs
-            → IfOk result (λ map. MakesPairs K.eq pairs map.entries) }
+        ensures runs { IfOk result (λ map. (it : I.IntoIter) × I.into_iter_gives iter it
+            × WholeRun I.IntoIter.next_gives it (λ p. MakesPairs K.eq p.items map.entries)) }
         ensures distinct { IfOk result (λ map. HasDistinctKeys K.eq map.entries) }
     {
         let mut map = VecMap::new(alloc);
@@ -149,7 +148,7 @@ impl<K, V> VecMap<K, V> {
     ///
     /// An existing key stays as it is, at its index, and only its value changes. A new pair is appended.
     ///
-    /// If a proof knows which pairs the iterator yields, it knows what lookups find afterwards (`joins`).
+    /// A proof knows what lookups find afterwards (`runs`), if the iterator is a `Vec`, a map or a chain over one.
     ///
     /// This is Rust's `Extend<(K, V)>`. The call first reserves capacity. If the map is empty, it reserves as much as
     /// the lower size hint of the iterator says. Otherwise it reserves half of that, rounded up, as some keys may be
@@ -191,9 +190,9 @@ impl<K, V> VecMap<K, V> {
             K.eq (RefusesAfter K.eq) iter self.old result self.new }
 
         // What follows for lookups, lengths and indices.
-        ensures joins { (pairs : List (K × V))
-            → YieldsAll I.into_iter_gives I.IntoIter.next_gives iter pairs
-            → OnOk result (Joins K.eq self.old.entries pairs self.new.entries) }
+        ensures runs { OnOk result ((it : I.IntoIter) × I.into_iter_gives iter it
+            × WholeRun I.IntoIter.next_gives it (λ p. Joins K.eq self.old.entries p.items
+            self.new.entries)) }
     {
         let items = iter.into_iter();
         self.reserve(capacity_to_reserve(self.is_empty(), items.size_hint().0))?;
@@ -240,6 +239,12 @@ impl<K, V> VecMap<K, V> {
             (ClonesSucceed K.Clone V.Clone deref_pair) → IsOk result }
         ensures extended { Extends I.into_iter_gives I.IntoIter.next_gives I.IntoIter.remaining
             K.eq (RefusesClonesAfter K.eq K.Clone V.Clone deref_pair) iter self.old result self.new }
+
+        // What follows for lookups, lengths and indices, if each clone is the same as its original.
+        ensures runs { OnOk result ((it : I.IntoIter) × I.into_iter_gives iter it
+            × WholeRun I.IntoIter.next_gives it (λ p. ClonesAreSame K.is_clone
+            → ClonesAreSame V.is_clone → Joins K.eq self.old.entries (map deref_pair p.items)
+            self.new.entries)) }
     {
         let items = iter.into_iter();
         self.reserve(capacity_to_reserve(self.is_empty(), items.size_hint().0))?;
@@ -284,6 +289,12 @@ impl<K, V> VecMap<K, V> {
             (ClonesSucceed K.Clone V.Clone deref) → IsOk result }
         ensures extended { Extends I.into_iter_gives I.IntoIter.next_gives I.IntoIter.remaining
             K.eq (RefusesClonesAfter K.eq K.Clone V.Clone deref) iter self.old result self.new }
+
+        // What follows for lookups, lengths and indices, if each clone is the same as its original.
+        ensures runs { OnOk result ((it : I.IntoIter) × I.into_iter_gives iter it
+            × WholeRun I.IntoIter.next_gives it (λ p. ClonesAreSame K.is_clone
+            → ClonesAreSame V.is_clone → Joins K.eq self.old.entries (map deref p.items)
+            self.new.entries)) }
     {
         let items = iter.into_iter();
         self.reserve(capacity_to_reserve(self.is_empty(), items.size_hint().0))?;
@@ -323,7 +334,7 @@ impl<K, V> VecMap<K, V> {
 impl<K: Eq + Drop, V: Drop> FromIterator<(K, V)> for VecMap<K, V> {
     type Alloc = Global;
 
-    ghost from_iter_gives = { λ pairs map. map.entries ≡ puts K.eq [] pairs };
+    ghost from_iter_gives = { λ pairs map. MakesPairs K.eq pairs map.entries };
 
     fn from_iter<I: IntoIterator<Item = (K, V)>>(
         alloc: Global,

@@ -1,7 +1,8 @@
 //! Removal of pairs.
-ghost use Rattle.std.specs.Prelude.{◌≡◌, ◌<◌, ◌≤◌, Bool, IfNone, IfOk, IsOk, OnErr, String, [], length, string_eq};
+ghost use Rattle.std.specs.Prelude.{◌≡◌, ◌<◌, ◌≤◌, Bool, IfNone, IfOk, IsOk, OnErr, Some, String, [], length, string_eq};
 ghost use Rattle.vecmap_base.specs.{Asked.{CallableAtPair, CallableOnEach, CallsAtPair}, Kept.RetainsPairs};
 ghost use Rattle.vecmap_base.specs.{Lookups.KeepsFront, Pairs.{HasDistinctKeys, has_text, lookup_by}};
+ghost use Rattle.vecmap_map.specs.KeptValues.{StaysAtValue};
 ghost use Rattle.vecmap_base.specs.Removals.{FindsPair, RemovesAt, RemovesBy, RemovesLast, SplitsAt, SwapRemovesAt, SwapRemovesBy};
 
 use crate::VecMap;
@@ -125,6 +126,10 @@ impl<K, V> VecMap<K, V> {
         requires callable { CallableOnEach (CallsAtPair F.FnMut)
             (CallableAtPair F.FnMut) f self.old.entries }
         ensures selection { RetainsPairs (CallsAtPair F.FnMut) f self.old.entries self.new.entries }
+
+        // A query that found a value at which the closure returns `true` finds it still.
+        ensures stays { (test : K → Bool) (v : V) → lookup_by test self.old.entries ≡ Some v
+            → StaysAtValue (CallsAtPair F.FnMut) f v → lookup_by test self.new.entries ≡ Some v }
         ensures capacity { self.new.capacity ≡ self.old.capacity }
     {
         retain_pairs(&mut self.pairs, f);

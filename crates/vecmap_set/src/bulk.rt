@@ -1,7 +1,7 @@
 //! Creation of a set from many elements, and addition of many elements.
 ghost use Rattle.std.specs.Prelude.{◌≡◌, ◌<◌, ◌≤◌, IfOk, IsOk, List, OnErr, OnOk, [], length, map};
-ghost use Rattle.std.specs.{Borrow.Bor, Iterator.{Drains, ExtendsWithItems, IsFiniteIterable}, List.IsDistinct, Map.Iter.deref};
-ghost use Rattle.vecmap_base.specs.{Bulk.{HasRoomForAll, YieldsAll}, Items.adds};
+ghost use Rattle.std.specs.{Iterator.{Drains, ExtendsWithItems, IsFiniteIterable}, Iterator.Runs.WholeRun, List.IsDistinct, Map.Iter.deref};
+ghost use Rattle.vecmap_base.specs.{Bulk.HasRoomForAll, Items.adds};
 ghost use Rattle.vecmap_set.specs.{Contents.{HasRoom, with_elements}, Indices.KeepsMatchIndices};
 ghost use Rattle.vecmap_set.specs.SetBulk.{Adds, AddsClones, AddsCopies, AddsItems, Extends, JoinsItems, RefusesAfter, RefusesCopiesAfter};
 
@@ -43,9 +43,8 @@ impl<T: Eq> VecSet<T> {
         ensures elements { IfOk result (λ set. (it : I.IntoIter) × (items : List T)
             × I.into_iter_gives iter it × Drains I.IntoIter.next_gives it items
             × (set.elements ≡ adds T.eq [] items)) }
-        ensures insertion { (items : List T)
-            → YieldsAll I.into_iter_gives I.IntoIter.next_gives iter items
-            → IfOk result (λ set. AddsItems T.eq [] items set.elements) }
+        ensures runs { IfOk result (λ set. (it : I.IntoIter) × I.into_iter_gives iter it
+            × WholeRun I.IntoIter.next_gives it (λ p. AddsItems T.eq [] p.items set.elements)) }
         ensures distinct { IfOk result (λ set. IsDistinct T.eq set.elements) }
     {
         let mut set = VecSet::new(alloc);
@@ -158,9 +157,9 @@ impl<T: Eq> VecSet<T> {
             iter }
         ensures ran { ExtendsWithItems I.into_iter_gives I.IntoIter.next_gives
             (Adds T.eq) iter self.old self.new result }
-        ensures insertion { (items : List T)
-            → YieldsAll I.into_iter_gives I.IntoIter.next_gives iter items
-            → OnOk result (AddsItems T.eq self.old.elements items self.new.elements) }
+        ensures runs { OnOk result ((it : I.IntoIter) × I.into_iter_gives iter it
+            × WholeRun I.IntoIter.next_gives it (λ p. AddsItems T.eq self.old.elements p.items
+            self.new.elements)) }
         ensures distinct { IsDistinct T.eq self.new.elements }
         ensures succeeds { HasRoomForAll I.into_iter_gives I.IntoIter.remaining iter
             (HasRoom self.old) → IsOk result }
@@ -197,10 +196,9 @@ impl<T: Eq> VecSet<T> {
             iter }
         ensures ran { ExtendsWithItems I.into_iter_gives I.IntoIter.next_gives
             (AddsCopies T.eq deref) iter self.old self.new result }
-        ensures insertion { (items : List T) → ((it : I.IntoIter) (yielded : List (Bor T))
-            → I.into_iter_gives iter it → Drains I.IntoIter.next_gives it yielded
-            → map deref yielded ≡ items)
-            → OnOk result (AddsItems T.eq self.old.elements items self.new.elements) }
+        ensures runs { OnOk result ((it : I.IntoIter) × I.into_iter_gives iter it
+            × WholeRun I.IntoIter.next_gives it (λ p. AddsItems T.eq self.old.elements
+            (map deref p.items) self.new.elements)) }
         ensures distinct { IsDistinct T.eq self.new.elements }
         ensures succeeds { HasRoomForAll I.into_iter_gives I.IntoIter.remaining iter
             (HasRoom self.old) → IsOk result }
@@ -228,7 +226,7 @@ impl<T: Eq> VecSet<T> {
 impl<T: Eq + Drop> FromIterator<T> for VecSet<T> {
     type Alloc = Global;
 
-    ghost from_iter_gives = { λ items set. (set.elements ≡ adds T.eq [] items) × IsDistinct T.eq set.elements };
+    ghost from_iter_gives = { λ items set. AddsItems T.eq [] items set.elements × IsDistinct T.eq set.elements };
 
     fn from_iter<I: IntoIterator<Item = T>>(
         alloc: Global,

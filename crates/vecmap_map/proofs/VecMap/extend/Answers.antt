@@ -1,6 +1,6 @@
 -- The call stops at the insertion that runs out of memory.
-use Rattle.std.proofs.{Common.{ap, arith, inr, rules, ◌∙◌}, lemmas.{Grind.common_steps, Result.err_from_is_err_and}}
-use Rattle.vecmap_base.{specs.Pairs.puts, proofs.PairsLemmas.{Parts.joins_of_puts, Puts.length_put_at_most}}
+use Rattle.std.proofs.{Common.{arith, inr, rules}, iter.runs.Consumers.total_runs, lemmas.{Grind.common_steps, Result.err_from_is_err_and}}
+use Rattle.vecmap_base.{specs.Lookups.Joins, proofs.PairsLemmas.{Parts.joins_of_puts, Puts.length_put_at_most}}
 use Rattle.vecmap_map.proofs.VecMap.extend.Goals as goal
 
 pub loop-key-preserved-in_ok-insert : goal.loop-key-preserved-in_ok-insert
@@ -47,8 +47,8 @@ returns-clause-extended g c =
     let distinct = (joins_of_puts g.K.PartialEq.eq g.met.K.Eq.laws c.args.self.now.entries ran.1 _ ran.3).distinct in
     search (rules, distinct)
 
-pub returns-clause-joins : goal.returns-clause-joins
-returns-clause-joins g c pairs yields =
+pub returns-clause-runs : goal.returns-clause-runs
+returns-clause-runs g c =
     let ran = returns-clause-ran g c in
     let old = c.args.self.now.entries in
-    joins_of_puts g.K.PartialEq.eq g.met.K.Eq.laws old pairs _ (ran.3 ∙ ap (puts g.K.PartialEq.eq old) (yields ran.0 ran.1 ran.2 ran.4))
+    (ran.0, ran.2, total_runs _ ran.0 (Unit {0}) (λ pairs. Joins g.K.PartialEq.eq old pairs _) (ran.1, (λ _. ran.4), joins_of_puts g.K.PartialEq.eq g.met.K.Eq.laws old ran.1 _ ran.3) tt)

@@ -1,8 +1,8 @@
 -- The idea: each round appends a clone to the list of clones that the invariant names, and the call stops in the round
 -- in which memory runs out.
-use Rattle.std.proofs.{Common.{arith, inr, rules, sym, true≢false}, lemmas.{Grind.common_steps, Result.err_from_is_err_and}}
+use Rattle.std.proofs.{Common.{◌∙◌, ap, arith, inr, map, rules, sym, true≢false}, iter.runs.Consumers.total_runs, lemmas.{Grind.common_steps, Map.Entries.entries_from_clone, Result.err_from_is_err_and}}
 use Rattle.std.specs.Map.Iter.{deref_pair}
-use Rattle.vecmap_base.specs.{Clones.IsPairClone, Pairs.put}
+use Rattle.vecmap_base.specs.{Clones.{ClonesAreSame, IsPairClone}, Lookups.Joins, Pairs.{put, puts as pairs_put}}
 use Rattle.vecmap_base.proofs.{CloneLemmas.lent_clone_taken, PairsLemmas.Puts.length_put_at_most, PairsLemmas.Parts.joins_of_puts}
 use Rattle.vecmap_map.proofs.VecMap.extend_refs.Goals as goal
 
@@ -36,3 +36,14 @@ pub returns-clause-extended : goal.returns-clause-extended
 returns-clause-extended g c =
     let distinct = (joins_of_puts g.K.PartialEq.eq g.met.K.Eq.laws c.args.self.now.entries c.loop-key.invariant.puts.0 _ c.loop-key.invariant.puts.2).distinct in
     search (rules, distinct)
+
+pub returns-clause-runs : goal.returns-clause-runs
+returns-clause-runs g c =
+    let it = c.into_iter-key-iterator.result in
+    let old = c.args.self.now.entries in
+    let puts = c.loop-key.invariant.puts in (
+      it,
+      search rules,
+      total_runs _ it (Unit {0}) (λ items. ClonesAreSame g.K.Clone.is_clone → ClonesAreSame g.V.Clone.is_clone → Joins g.K.PartialEq.eq old (map deref_pair items) _)
+          (c.loop-key.yielded, (λ _. search rules), λ keys values. joins_of_puts g.K.PartialEq.eq g.met.K.Eq.laws old (map deref_pair c.loop-key.yielded) _ (puts.2 ∙ ap (pairs_put g.K.PartialEq.eq old) (entries_from_clone g.K.Clone.is_clone g.V.Clone.is_clone keys values _ puts.0 puts.1))) tt,
+    )

@@ -1,5 +1,5 @@
-use Rattle.std.proofs.Common.{[], ap, rules, ◌∙◌}
-use Rattle.vecmap_base.{specs.Pairs.puts, proofs.PairsLemmas.Parts.makes_pairs}
+use Rattle.std.proofs.{Common.{rules}, iter.runs.Consumers.total_runs}
+use Rattle.vecmap_base.{specs.Lookups.MakesPairs, proofs.PairsLemmas.Parts.makes_pairs}
 use Rattle.vecmap_map.proofs.VecMap.from_iter.Goals as goal
 
 pub returns-clause-entries : goal.returns-clause-entries
@@ -10,7 +10,7 @@ returns-clause-distinct g c =
     let made = returns-clause-entries g c in
     (makes_pairs g.K.PartialEq.eq g.met.K.Eq.laws made.1 _ made.4).distinct
 
-pub returns-clause-made : goal.returns-clause-made
-returns-clause-made g c = λ pairs yields.
+pub returns-clause-runs : goal.returns-clause-runs
+returns-clause-runs g c =
     let made = returns-clause-entries g c in
-    makes_pairs g.K.PartialEq.eq g.met.K.Eq.laws pairs _ (made.4 ∙ ap (puts g.K.PartialEq.eq []) (yields made.0 made.1 made.2 made.3))
+    (made.0, made.2, total_runs _ made.0 (Unit {0}) (λ pairs. MakesPairs g.K.PartialEq.eq pairs _) (made.1, (λ _. made.3), makes_pairs g.K.PartialEq.eq g.met.K.Eq.laws made.1 _ made.4) tt)

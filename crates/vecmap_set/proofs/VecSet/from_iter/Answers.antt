@@ -1,8 +1,9 @@
-use Rattle.std.proofs.{Common.{[], arith}, lemmas.Grind.common_steps}
-use Rattle.vecmap_set.proofs.MemberLemmas.{adds_items}
+use Rattle.std.proofs.Common.{subst}
+use Rattle.vecmap_set.specs.SetBulk.{AddsItems}
 use Rattle.vecmap_set.proofs.VecSet.from_iter.Goals as goal
 
-pub returns-clause-insertion : goal.returns-clause-insertion
-returns-clause-insertion g c items all =
-    let added = (c.in_ok-extend.ensures.insertion items all).elements in
-    adds_items g.T.PartialEq.eq g.met.T.Eq.laws [] items _ (grind (arith, common_steps, added))
+pub returns-clause-runs : goal.returns-clause-runs
+returns-clause-runs g c =
+    let run = c.in_ok-extend.ensures.runs in
+    let all = run.2 in
+    (run.0, run.1, (all.0, all.1, all.2, subst (λ l. AddsItems g.T.PartialEq.eq l all.0.items c.extend.new.self.elements) c.new-set.ensures.elements all.3))
