@@ -59,9 +59,6 @@ mod set_run;
 pub use map_run::{MapCommand, MapReply, run};
 pub use set_run::{SetCommand, SetReply, run_set};
 pub use std::collections::TryReserveError;
-pub use vecmap_base::{
-    Compare, Counter, Equivalent, Refused, contains_by, find_by, find_item_by, items_distinct,
-    keys_distinct,
-};
+pub use vecmap_base::{Equivalent, Refused, items_distinct, keys_distinct};
 pub use vecmap_map::VecMap;
 pub use vecmap_set::VecSet;

@@ -2,4 +2,3 @@
 pub mod Comparisons
 pub mod Cost
 pub mod Gather
-pub mod SearchCost

@@ -4,7 +4,6 @@
 //! the contracts of every crate use are in `specs/`.
 #![tactic(auto)]
 
-mod compare;
 mod distinct;
 mod drain;
 mod duplicates;
@@ -24,7 +23,6 @@ mod try_update;
 mod unrolled;
 mod update;
 
-pub use compare::{Compare, Counter};
 pub use distinct::{items_distinct, keys_distinct};
 pub use drain::{move_range_last, reverse_from};
 pub use duplicates::{dedup_keep_first, dedup_keep_last_value, gather_items, gather_pairs};
@@ -35,8 +33,8 @@ pub use iter::{
     KeysMut, Values, ValuesMut,
 };
 pub use lookup::{
-    contains_by, contains_equivalent, contains_item, contains_item_inline, find, find_by,
-    find_equivalent, find_item, find_item_by, find_item_equivalent, find_item_str, find_str,
+    contains_equivalent, contains_item, contains_item_inline, find, find_equivalent, find_item,
+    find_item_equivalent, find_item_str, find_str,
 };
 pub use moving::{insert_reserved, move_to, remove_item, replace_and_move};
 pub use refused::Refused;

@@ -3,21 +3,15 @@
 //! Three functions return whether an item is present. `contains_equivalent` takes a query. `contains_item` takes an item,
 //! and `contains_item_inline` differs in speed alone: it inlines the loop over few items.
 //!
-//! `find_by`, `find_item_by` and `contains_by` compare by a [`Compare`], which counts. No type of theirs has a bound, so
-//! they can compare in no other way. The other searches call them with a [`Counter`] that nobody reads: the functions
-//! `.._with` open it, since its ledger is chosen by the proof of their caller. Counters have no size and no code, so begin
-//! to read at `find_by`. Each makes at most as many comparisons as the slice has items, and does not allocate.
-ghost use Rattle.std.specs.{Prelude.{◌≡◌, ◌+◌, ◌<◌, ◌≤◌, IfSome, IsTrue, None, false, length, position}, List.list_any, Map.keys_of};
-ghost use Rattle.std.specs.{Option.option_map_or, Set.is_member};
-ghost use Rattle.vecmap_base.specs.{Items.item_index, Pairs.{has_text, index_by, index_of}, Comparisons.search_cost_by};
+//! Each makes at most as many comparisons as the slice has items, and does not allocate.
+ghost use Rattle.std.specs.{Prelude.{◌≡◌, ◌<◌, ◌≤◌, IfSome, IsTrue, length, position}, List.list_any};
+ghost use Rattle.std.specs.{Set.is_member};
+ghost use Rattle.vecmap_base.specs.{Items.item_index, Pairs.{has_text, index_by, index_of}};
 
-use crate::compare::{Compare, Counter};
 use crate::equivalent::Equivalent;
 use crate::unrolled::{
     find_by_eights, find_item_unrolled, find_pair_unrolled, is_any_in_blocks, is_small,
 };
-use std::marker::Brand;
-use std::sync::ledger::{Blank, Ledger};
 
 // The least length of a list of small items for which `is_any_in_blocks` is faster than a plain loop.
 pub(crate) const MIN_LENGTH_FOR_BLOCKS: usize = 4;
@@ -131,21 +125,6 @@ pub(crate) fn contains_by_std<T: Eq>(items: &[T], item: &T) -> bool
     items.iter().any(|other| *item == *other)
 }
 
-// Returns `true` if one of `items` matches `query`, by a plain loop.
-#[inline(always)]
-fn is_any_by_loop<T, Q, C: Compare<Q, T>>(items: &[T], query: &Q, compare: &mut C) -> bool
-    ensures found { result ≡ list_any (C.equal query.now) items.now }
-    ensures counted { C.made compare.new
-        ≡ C.made compare.old + search_cost_by (C.equal query.now) items.now }
-{
-    for item in items {
-        if compare.same(query, item) {
-            return true;
-        }
-    }
-    false
-}
-
 // Returns `true` if `items` has at least `least` items, and these are small.
 #[inline(always)]
 pub(crate) fn are_small<T>(items: &[T], least: usize) -> bool
@@ -156,84 +135,35 @@ pub(crate) fn are_small<T>(items: &[T], least: usize) -> bool
 
 /// Returns the index of the first pair whose key matches `query`.
 ///
+/// # Complexity
+///
+/// Compares the keys up to the first that matches, in order.
+///
 /// # Examples
 ///
 /// ```
 /// find_equivalent(&[("a", 1), ("b", 2)], "b") // Some(1)
 /// ```
 #[inline(always)]
+#[tactic(auto, using(crate::proofs::PairsLemmas::ByIndex::index_by_is))]
 pub fn find_equivalent<K: Eq, V, Q: Equivalent<K>>(pairs: &[(K, V)], query: Q) -> Option<usize>
     ensures index { result ≡ index_by (Q.equivalent query) pairs.now }
     ensures within { IfSome result (λ i. i < length pairs.now) }
 {
-    find_equivalent_with::<Brand, K, V, Q>(pairs, query, Blank::new(1))
-}
-
-#[inline(always)]
-fn find_equivalent_with<L: Ledger, K: Eq, V, Q: Equivalent<K>>(
-    pairs: &[(K, V)],
-    query: Q,
-    blank: Blank,
-) -> Option<usize>
-    requires same_name { blank.name ≡ L.name }
-    requires same_parts { blank.parts ≡ L.parts }
-    requires one_part { blank.parts ≡ 1 }
-    ensures index { result ≡ index_by (Q.equivalent query) pairs.now }
-    ensures within { IfSome result (λ i. i < length pairs.now) }
-{
-    let mut counter: Counter<L> = Counter::open(blank);
-    find_by(pairs, &query, &mut counter)
-}
-
-/// Returns the index of the first pair whose key matches `query`, and counts the comparisons.
-///
-/// # Complexity
-///
-/// Compares the keys up to the first that matches, in order: index + 1 comparisons if one does, and `pairs.len()` if
-/// none does.
-///
-/// # Examples
-///
-/// ```
-/// let mut counter: Counter<Brand> = Counter::open(Blank::new(1));
-/// find_by(&[("a", 1), ("b", 2), ("c", 3)], &"b", &mut counter) // Some(1)
-/// // Now the counter is 2.
-/// ```
-#[inline]
-#[tactic(auto, using(crate::proofs::PairsLemmas::ByIndex::index_by_is, crate::proofs::DuplicatesLemmas::SearchCost::key_search_cost))]
-pub fn find_by<Q, K, V, C: Compare<Q, K>>(
-    pairs: &[(K, V)],
-    query: &Q,
-    compare: &mut C,
-) -> Option<usize>
-    ensures index { result ≡ index_by (C.equal query.now) pairs.now }
-    ensures within { IfSome result (λ i. i < length pairs.now) }
-    ensures counted { C.made compare.new
-        ≡ C.made compare.old + search_cost_by (C.equal query.now) (keys_of pairs.now) }
-    ensures hit { IfSome result (λ i. C.made compare.new ≡ C.made compare.old + (i + 1)) }
-    ensures miss { result ≡ None → C.made compare.new ≡ C.made compare.old + length pairs.now }
-    ensures at_most { C.made compare.new ≤ C.made compare.old + length pairs.now }
-{
     if is_small::<K>() {
-        return find_pair_unrolled(pairs, query, compare);
+        return find_pair_unrolled(pairs, query);
     }
-    find_by_loop(pairs, query, compare)
+    find_by_loop(pairs, query)
 }
 
 // Like `find_pair_unrolled`, by a plain loop.
 #[inline(always)]
-fn find_by_loop<K, V, Q, C: Compare<Q, K>>(
-    pairs: &[(K, V)],
-    query: &Q,
-    compare: &mut C,
-) -> Option<usize>
-    ensures index { result ≡ position (λ pair. C.equal query.now pair.0) pairs.now }
+fn find_by_loop<K: Eq, V, Q: Equivalent<K>>(pairs: &[(K, V)], query: Q) -> Option<usize>
+    ensures index { result ≡ position (λ pair. Q.equivalent query pair.0) pairs.now }
     ensures within { IfSome result (λ i. i < length pairs.now) }
-    ensures counted { C.made compare.new
-        ≡ C.made compare.old + option_map_or (λ i. i + 1) result (length pairs.now) }
 {
     for (index, pair) in pairs.iter().enumerate() {
-        if compare.same(query, &pair.0) {
+        if query.equivalent(&pair.0) {
             return Some(index);
         }
     }
@@ -244,8 +174,8 @@ fn find_by_loop<K, V, Q, C: Compare<Q, K>>(
 ///
 /// # Complexity
 ///
-/// As many comparisons as [`find_item_by`] makes: at most `items.len()`. Among 32 items or more, of at
-/// most 8 bytes each, up to seven comparisons come after the match.
+/// Compares the items up to the first that matches, in order. Among 32 items or more, of at most 8 bytes each, up to seven
+/// comparisons come after the match.
 ///
 /// # Examples
 ///
@@ -257,110 +187,49 @@ pub fn find_item_equivalent<T: Eq, Q: Equivalent<T>>(items: &[T], query: Q) -> O
     ensures index { result ≡ position (Q.equivalent query) items.now }
     ensures within { IfSome result (λ i. i < length items.now) }
 {
-    find_item_equivalent_with::<Brand, T, Q>(items, query, Blank::new(1))
-}
-
-#[inline(always)]
-fn find_item_equivalent_with<L: Ledger, T: Eq, Q: Equivalent<T>>(
-    items: &[T],
-    query: Q,
-    blank: Blank,
-) -> Option<usize>
-    requires same_name { blank.name ≡ L.name }
-    requires same_parts { blank.parts ≡ L.parts }
-    requires one_part { blank.parts ≡ 1 }
-    ensures index { result ≡ position (Q.equivalent query) items.now }
-    ensures within { IfSome result (λ i. i < length items.now) }
-{
-    let mut counter: Counter<L> = Counter::open(blank);
-    find_item_by(items, &query, &mut counter)
-}
-
-/// Returns the index of the first item that matches `query`, and counts the comparisons.
-///
-/// # Complexity
-///
-/// Compares the items up to the first that matches, in order, or all of them if none does. Among 32 items or more, of at
-/// most 8 bytes each, up to seven comparisons come after the match. So it makes at most `items.len()` comparisons.
-///
-/// # Examples
-///
-/// ```
-/// let mut counter: Counter<Brand> = Counter::open(Blank::new(1));
-/// find_item_by(&["a", "b", "c"], &"b", &mut counter) // Some(1)
-/// // Now the counter is 2.
-/// ```
-#[inline]
-pub fn find_item_by<Q, T, C: Compare<Q, T>>(
-    items: &[T],
-    query: &Q,
-    compare: &mut C,
-) -> Option<usize>
-    ensures index { result ≡ position (C.equal query.now) items.now }
-    ensures within { IfSome result (λ i. i < length items.now) }
-    ensures few { length items.now < 32
-        → C.made compare.new ≡ C.made compare.old + search_cost_by (C.equal query.now) items.now }
-    ensures miss { result ≡ None → C.made compare.new ≡ C.made compare.old + length items.now }
-    ensures at_most { C.made compare.new ≤ C.made compare.old + length items.now }
-    ensures near { C.made compare.new
-        ≤ C.made compare.old + (search_cost_by (C.equal query.now) items.now + 7) }
-{
     if !are_small(items, MIN_LENGTH_FOR_FOURS) {
-        return find_item_by_loop(items, query, compare);
+        return find_item_by_loop(items, query);
     }
 
     // The `?` takes each result apart, and `Some` makes a new one. If the result of either call were returned as it is,
     // LLVM would keep it as one value, and each caller would test again whether an item was found.
     let index = if items.len() >= MIN_LENGTH_FOR_EIGHTS {
-        find_item_of_many(items, query, compare)?
+        find_item_of_many(items, query)?
     } else {
-        find_item_unrolled(items, query, compare)?
+        find_item_unrolled(items, query)?
     };
     Some(index)
 }
 
 // Like `find_item_unrolled`, by a plain loop.
 #[inline(always)]
-fn find_item_by_loop<T, Q, C: Compare<Q, T>>(
-    items: &[T],
-    query: &Q,
-    compare: &mut C,
-) -> Option<usize>
-    ensures index { result ≡ position (C.equal query.now) items.now }
+fn find_item_by_loop<T: Eq, Q: Equivalent<T>>(items: &[T], query: Q) -> Option<usize>
+    ensures index { result ≡ position (Q.equivalent query) items.now }
     ensures within { IfSome result (λ i. i < length items.now) }
-    ensures counted { C.made compare.new
-        ≡ C.made compare.old + option_map_or (λ i. i + 1) result (length items.now) }
 {
     for (index, item) in items.iter().enumerate() {
-        if compare.same(query, item) {
+        if query.equivalent(item) {
             return Some(index);
         }
     }
     None
 }
 
-// Like `find_item_by`, for many small items. It is not inlined, so that the search of a short list is.
+// Like `find_item_equivalent`, for many small items. It is not inlined, so that the search of a short list is.
 #[inline(never)]
-fn find_item_of_many<Q, T, C: Compare<Q, T>>(
-    items: &[T],
-    query: &Q,
-    compare: &mut C,
-) -> Option<usize>
-    ensures index { result ≡ position (C.equal query.now) items.now }
+fn find_item_of_many<T: Eq, Q: Equivalent<T>>(items: &[T], query: Q) -> Option<usize>
+    ensures index { result ≡ position (Q.equivalent query) items.now }
     ensures within { IfSome result (λ i. i < length items.now) }
-    ensures miss { result ≡ None → C.made compare.new ≡ C.made compare.old + length items.now }
-    ensures hit { IfSome result (λ i. C.made compare.new ≤ C.made compare.old + (i + 8)) }
-    ensures at_most { C.made compare.new ≤ C.made compare.old + length items.now }
 {
-    find_by_eights(items, query, compare)
+    find_by_eights(items, query)
 }
 
 /// Returns `true` if one of `items` matches `query`.
 ///
 /// # Complexity
 ///
-/// As many comparisons as [`contains_by`] makes: at most `items.len()`. Among four items or more, of at most 8 bytes each,
-/// up to seven of them come after the first that matches.
+/// Compares the items up to the first that matches, in order. Among four items or more, of at most 8 bytes each, up to
+/// seven comparisons come after the match.
 ///
 /// # Examples
 ///
@@ -371,54 +240,10 @@ fn find_item_of_many<Q, T, C: Compare<Q, T>>(
 pub fn contains_equivalent<T: Eq, Q: Equivalent<T>>(items: &[T], query: Q) -> bool
     ensures { result ≡ list_any (Q.equivalent query) items.now }
 {
-    contains_equivalent_with::<Brand, T, Q>(items, query, Blank::new(1))
-}
-
-#[inline(always)]
-fn contains_equivalent_with<L: Ledger, T: Eq, Q: Equivalent<T>>(
-    items: &[T],
-    query: Q,
-    blank: Blank,
-) -> bool
-    requires same_name { blank.name ≡ L.name }
-    requires same_parts { blank.parts ≡ L.parts }
-    requires one_part { blank.parts ≡ 1 }
-    ensures { result ≡ list_any (Q.equivalent query) items.now }
-{
-    let mut counter: Counter<L> = Counter::open(blank);
-    contains_by(items, &query, &mut counter)
-}
-
-/// Returns `true` if one of `items` matches `query`, and counts the comparisons.
-///
-/// # Complexity
-///
-/// Compares the items up to the first that matches, in order, or all of them if none does. Among four items or more, of
-/// at most 8 bytes each, up to seven comparisons come after the first match. So it makes at most `items.len()`
-/// comparisons.
-///
-/// # Examples
-///
-/// ```
-/// let mut counter: Counter<Brand> = Counter::open(Blank::new(1));
-/// contains_by(&["a", "b"], &"c", &mut counter) // false
-/// // Now the counter is 2.
-/// ```
-#[inline]
-#[tactic(auto, using(crate::proofs::DuplicatesLemmas::SearchCost::search_cost_none))]
-pub fn contains_by<Q, T, C: Compare<Q, T>>(items: &[T], query: &Q, compare: &mut C) -> bool
-    ensures found { result ≡ list_any (C.equal query.now) items.now }
-    ensures few { length items.now < 4
-        → C.made compare.new ≡ C.made compare.old + search_cost_by (C.equal query.now) items.now }
-    ensures miss { result ≡ false → C.made compare.new ≡ C.made compare.old + length items.now }
-    ensures at_most { C.made compare.new ≤ C.made compare.old + length items.now }
-    ensures near { C.made compare.new
-        ≤ C.made compare.old + (search_cost_by (C.equal query.now) items.now + 7) }
-{
     if are_small(items, MIN_LENGTH_FOR_BLOCKS) {
-        return is_any_in_blocks(items, query, compare);
+        return is_any_in_blocks(items, query);
     }
-    is_any_by_loop(items, query, compare)
+    items.iter().any(|item| query.equivalent(item))
 }
 
 // Like [`contains_item`], by `is_any_in_blocks`.
@@ -426,16 +251,5 @@ pub fn contains_by<Q, T, C: Compare<Q, T>>(items: &[T], query: &Q, compare: &mut
 pub(crate) fn contains_in_blocks<T: Eq>(items: &[T], item: &T) -> bool
     ensures { result ≡ is_member T.eq items.now item.now }
 {
-    contains_in_blocks_with::<Brand, T>(items, item, Blank::new(1))
-}
-
-#[inline(always)]
-fn contains_in_blocks_with<L: Ledger, T: Eq>(items: &[T], item: &T, blank: Blank) -> bool
-    requires same_name { blank.name ≡ L.name }
-    requires same_parts { blank.parts ≡ L.parts }
-    requires one_part { blank.parts ≡ 1 }
-    ensures { result ≡ is_member T.eq items.now item.now }
-{
-    let mut counter: Counter<L> = Counter::open(blank);
-    is_any_in_blocks(items, &item, &mut counter)
+    is_any_in_blocks(items, item)
 }

@@ -4,13 +4,9 @@
 //! an index stops at the first item that passes. With eight, and in a test for an item, it tests a whole block of eight
 //! or four items and then branches once, so that the compiler compares vectors. So it tests at most seven items after
 //! the first that passes.
-//!
-//! No type of theirs has a bound, so they compare a query with an item by `Compare::same` alone, which counts.
 ghost use Rattle.std.specs.{Prelude.{◌≡◌, ◌+◌, ◌<◌, ◌≤◌, ◌||◌, IfSome, None, Some, false, length, position, take}, List.list_any};
-ghost use Rattle.std.specs.Option.{option_map_or};
-ghost use Rattle.vecmap_base.specs.Comparisons.{search_cost_by};
 
-use crate::compare::Compare;
+use crate::equivalent::Equivalent;
 use std::mem::{ManuallyDrop, align_of_val, size_of_val};
 
 // The size of a word in bytes.
@@ -25,111 +21,88 @@ pub(crate) fn is_small<T>() -> bool {
     size_of_val(&absent) <= align_of_val(&absent).saturating_add(WORD)
 }
 
-// Returns the index of the first pair whose key matches `query`. It compares the keys up to this one, in order.
-pub(crate) fn find_pair_unrolled<K, V, Q, C: Compare<Q, K>>(
+// Returns the index of the first pair whose key matches `query`.
+pub(crate) fn find_pair_unrolled<K: Eq, V, Q: Equivalent<K>>(
     pairs: &[(K, V)],
-    query: &Q,
-    compare: &mut C,
+    query: Q,
 ) -> Option<usize>
-    ensures index { result ≡ position (λ pair. C.equal query.now pair.0) pairs.now }
+    ensures index { result ≡ position (λ pair. Q.equivalent query pair.0) pairs.now }
     ensures within { IfSome result (λ i. i < length pairs.now) }
-    ensures counted { C.made compare.new
-        ≡ C.made compare.old + option_map_or (λ i. i + 1) result (length pairs.now) }
 {
     let twos = pairs.len() / 2;
     for two in 0..twos {
         let at = 2 * two;
-        if compare.same(query, &pairs[at].0) {
+        if query.equivalent(&pairs[at].0) {
             return Some(at);
         }
-        if compare.same(query, &pairs[at + 1].0) {
+        if query.equivalent(&pairs[at + 1].0) {
             return Some(at + 1);
         }
     }
     let last = 2 * twos;
-    if last < pairs.len() && compare.same(query, &pairs[last].0) {
+    if last < pairs.len() && query.equivalent(&pairs[last].0) {
         return Some(last);
     }
     None
 }
 
-// Returns the index of the first item that matches `query`. It compares the items up to this one, in order.
-pub(crate) fn find_item_unrolled<T, Q, C: Compare<Q, T>>(
-    items: &[T],
-    query: &Q,
-    compare: &mut C,
-) -> Option<usize>
-    ensures index { result ≡ position (C.equal query.now) items.now }
+// Returns the index of the first item that matches `query`.
+pub(crate) fn find_item_unrolled<T: Eq, Q: Equivalent<T>>(items: &[T], query: Q) -> Option<usize>
+    ensures index { result ≡ position (Q.equivalent query) items.now }
     ensures within { IfSome result (λ i. i < length items.now) }
-    ensures counted { C.made compare.new
-        ≡ C.made compare.old + option_map_or (λ i. i + 1) result (length items.now) }
 {
     let fours = items.len() / 4;
     for four in 0..fours {
         let at = 4 * four;
-        if compare.same(query, &items[at]) {
+        if query.equivalent(&items[at]) {
             return Some(at);
         }
-        if compare.same(query, &items[at + 1]) {
+        if query.equivalent(&items[at + 1]) {
             return Some(at + 1);
         }
-        if compare.same(query, &items[at + 2]) {
+        if query.equivalent(&items[at + 2]) {
             return Some(at + 2);
         }
-        if compare.same(query, &items[at + 3]) {
+        if query.equivalent(&items[at + 3]) {
             return Some(at + 3);
         }
     }
-    find_from(items, 4 * fours, query, compare)
+    find_from(items, 4 * fours, query)
 }
 
 // Returns the index of the first item that matches `query`. It compares eight items before it branches.
-pub(crate) fn find_by_eights<T, Q, C: Compare<Q, T>>(
-    items: &[T],
-    query: &Q,
-    compare: &mut C,
-) -> Option<usize>
-    ensures index { result ≡ position (C.equal query.now) items.now }
+pub(crate) fn find_by_eights<T: Eq, Q: Equivalent<T>>(items: &[T], query: Q) -> Option<usize>
+    ensures index { result ≡ position (Q.equivalent query) items.now }
     ensures within { IfSome result (λ i. i < length items.now) }
-    ensures miss { result ≡ None → C.made compare.new ≡ C.made compare.old + length items.now }
-    ensures hit { IfSome result (λ i. C.made compare.new ≤ C.made compare.old + (i + 8)) }
-    ensures at_most { C.made compare.new ≤ C.made compare.old + length items.now }
 {
     let eights = items.len() / 8;
     for eight in 0..eights {
-        let found = find_of_eight(items, 8 * eight, query, compare);
+        let found = find_of_eight(items, 8 * eight, query);
         if found.is_some() {
             return found;
         }
     }
-    find_from(items, 8 * eights, query, compare)
+    find_from(items, 8 * eights, query)
 }
 
 // Returns the index of the first of the eight items from `at` on that matches `query`. It compares each of them once.
 // No item before `at` matches.
-fn find_of_eight<T, Q, C: Compare<Q, T>>(
-    items: &[T],
-    at: usize,
-    query: &Q,
-    compare: &mut C,
-) -> Option<usize>
+fn find_of_eight<T: Eq, Q: Equivalent<T>>(items: &[T], at: usize, query: Q) -> Option<usize>
     requires within { at + 8 ≤ length items.now }
-    requires none_before { position (C.equal query.now) (take at items.now) ≡ None }
-    ensures index { IfSome result (λ i. position (C.equal query.now) items.now ≡ Some i) }
+    requires none_before { position (Q.equivalent query) (take at items.now) ≡ None }
+    ensures index { IfSome result (λ i. position (Q.equivalent query) items.now ≡ Some i) }
     ensures within { IfSome result (λ i. i < length items.now) }
-    ensures from { IfSome result (λ i. at ≤ i) }
     ensures none { result ≡ None
-        → position (C.equal query.now) (take (at + 8) items.now) ≡ None }
-    ensures counted { C.made compare.new ≡ C.made compare.old + 8 }
+        → position (Q.equivalent query) (take (at + 8) items.now) ≡ None }
 {
-    let a = compare.same(query, &items[at]);
-    let b = compare.same(query, &items[at + 1]);
-    let c = compare.same(query, &items[at + 2]);
-    let d = compare.same(query, &items[at + 3]);
-    let e = compare.same(query, &items[at + 4]);
-    let f = compare.same(query, &items[at + 5]);
-    let g = compare.same(query, &items[at + 6]);
-    let h = compare.same(query, &items[at + 7]);
+    let a = query.equivalent(&items[at]);
+    let b = query.equivalent(&items[at + 1]);
+    let c = query.equivalent(&items[at + 2]);
+    let d = query.equivalent(&items[at + 3]);
+    let e = query.equivalent(&items[at + 4]);
+    let f = query.equivalent(&items[at + 5]);
+    let g = query.equivalent(&items[at + 6]);
+    let h = query.equivalent(&items[at + 7]);
     if !(a | b | c | d | e | f | g | h) {
         return None;
     }
@@ -157,24 +130,15 @@ fn find_of_eight<T, Q, C: Compare<Q, T>>(
     Some(at + 7)
 }
 
-// Returns the index of the first item that matches `query`. No item before `from` matches. It compares the items from
-// `from` on one by one, up to the first that matches. So its comparisons and `from` more are those of a search that
-// compares each item once, in order.
-fn find_from<T, Q, C: Compare<Q, T>>(
-    items: &[T],
-    from: usize,
-    query: &Q,
-    compare: &mut C,
-) -> Option<usize>
+// Returns the index of the first item that matches `query`. No item before `from` matches.
+fn find_from<T: Eq, Q: Equivalent<T>>(items: &[T], from: usize, query: Q) -> Option<usize>
     requires within { from ≤ length items.now }
-    requires none_before { position (C.equal query.now) (take from items.now) ≡ None }
-    ensures index { result ≡ position (C.equal query.now) items.now }
+    requires none_before { position (Q.equivalent query) (take from items.now) ≡ None }
+    ensures index { result ≡ position (Q.equivalent query) items.now }
     ensures within { IfSome result (λ i. i < length items.now) }
-    ensures counted { C.made compare.new + from
-        ≡ C.made compare.old + option_map_or (λ i. i + 1) result (length items.now) }
 {
     for index in from..items.len() {
-        if compare.same(query, &items[index]) {
+        if query.equivalent(&items[index]) {
             return Some(index);
         }
     }
@@ -184,79 +148,55 @@ fn find_from<T, Q, C: Compare<Q, T>>(
 // Returns `true` if an item matches `query`. It compares eight items before it branches, then four, and the others one
 // by one.
 #[inline(always)]
-pub(crate) fn is_any_in_blocks<T, Q, C: Compare<Q, T>>(
-    items: &[T],
-    query: &Q,
-    compare: &mut C,
-) -> bool
-    ensures found { result ≡ list_any (C.equal query.now) items.now }
-    ensures miss { result ≡ false → C.made compare.new ≡ C.made compare.old + length items.now }
-    ensures at_most { C.made compare.new ≤ C.made compare.old + length items.now }
-    ensures near { C.made compare.new
-        ≤ C.made compare.old + (search_cost_by (C.equal query.now) items.now + 7) }
+pub(crate) fn is_any_in_blocks<T: Eq, Q: Equivalent<T>>(items: &[T], query: Q) -> bool
+    ensures found { result ≡ list_any (Q.equivalent query) items.now }
 {
     let eights = items.len() / 8;
     for eight in 0..eights {
-        if is_any_of_eight(items, 8 * eight, query, compare) {
+        if is_any_of_eight(items, 8 * eight, query) {
             return true;
         }
     }
     let mut from = 8 * eights;
     if 4 <= items.len() - from {
-        if is_any_of_four(items, from, query, compare) {
+        if is_any_of_four(items, from, query) {
             return true;
         }
         from += 4;
     }
-    is_any_from(items, from, query, compare)
+    is_any_from(items, from, query)
 }
 
 // Returns `true` if one of the eight items from `at` on matches `query`. It compares each of them once.
-fn is_any_of_eight<T, Q, C: Compare<Q, T>>(
-    items: &[T],
-    at: usize,
-    query: &Q,
-    compare: &mut C,
-) -> bool
+fn is_any_of_eight<T: Eq, Q: Equivalent<T>>(items: &[T], at: usize, query: Q) -> bool
     requires { at + 8 ≤ length items.now }
-    ensures found { list_any (C.equal query.now) (take (at + 8) items.now)
-        ≡ (list_any (C.equal query.now) (take at items.now) || result) }
-    ensures counted { C.made compare.new ≡ C.made compare.old + 8 }
+    ensures found { list_any (Q.equivalent query) (take (at + 8) items.now)
+        ≡ (list_any (Q.equivalent query) (take at items.now) || result) }
 {
-    is_any_of_four(items, at, query, compare) | is_any_of_four(items, at + 4, query, compare)
+    is_any_of_four(items, at, query) | is_any_of_four(items, at + 4, query)
 }
 
 // The same of the four items from `at` on.
-fn is_any_of_four<T, Q, C: Compare<Q, T>>(
-    items: &[T],
-    at: usize,
-    query: &Q,
-    compare: &mut C,
-) -> bool
+fn is_any_of_four<T: Eq, Q: Equivalent<T>>(items: &[T], at: usize, query: Q) -> bool
     requires { at + 4 ≤ length items.now }
-    ensures found { list_any (C.equal query.now) (take (at + 4) items.now)
-        ≡ (list_any (C.equal query.now) (take at items.now) || result) }
-    ensures counted { C.made compare.new ≡ C.made compare.old + 4 }
+    ensures found { list_any (Q.equivalent query) (take (at + 4) items.now)
+        ≡ (list_any (Q.equivalent query) (take at items.now) || result) }
 {
-    let a = compare.same(query, &items[at]);
-    let b = compare.same(query, &items[at + 1]);
-    let c = compare.same(query, &items[at + 2]);
-    let d = compare.same(query, &items[at + 3]);
+    let a = query.equivalent(&items[at]);
+    let b = query.equivalent(&items[at + 1]);
+    let c = query.equivalent(&items[at + 2]);
+    let d = query.equivalent(&items[at + 3]);
     a | b | c | d
 }
 
-// Returns `true` if an item matches `query`. No item before `from` matches. It compares the items from `from` on one by
-// one, up to the first that matches. So its comparisons and `from` more are those of a search that compares each item
-// once, in order.
-fn is_any_from<T, Q, C: Compare<Q, T>>(items: &[T], from: usize, query: &Q, compare: &mut C) -> bool
+// Returns `true` if an item matches `query`. No item before `from` matches.
+fn is_any_from<T: Eq, Q: Equivalent<T>>(items: &[T], from: usize, query: Q) -> bool
     requires within { from ≤ length items.now }
-    requires none_before { list_any (C.equal query.now) (take from items.now) ≡ false }
-    ensures found { result ≡ list_any (C.equal query.now) items.now }
-    ensures counted { C.made compare.new + from
-        ≡ C.made compare.old + search_cost_by (C.equal query.now) items.now }
+    requires none_before { list_any (Q.equivalent query) (take from items.now) ≡ false }
+    ensures found { result ≡ list_any (Q.equivalent query) items.now }
 {
     for index in from..items.len() {
-        if compare.same(query, &items[index]) {
+        if query.equivalent(&items[index]) {
             return true;
         }
     }

@@ -2,7 +2,6 @@
 //! would be.
 #![tactic(auto)]
 
-pub mod costs;
 pub mod documents;
 pub mod equivalent;
 pub mod filling;

@@ -1,16 +1,14 @@
 //! How often keys are compared and closures called. The keys and elements of a test case have more than 16 bytes and
-//! cannot be copied, and a counter is in contracts alone: these tests have keys of 8 and 16 bytes, and count by `==`.
+//! cannot be copied: these tests have keys of 8 and 16 bytes, and count by `==`.
 ghost use Rattle.std.specs.{Prelude.{◌≡◌, nat_eq}, Cmp.{nat_eq_equiv, partial_equiv_from_equiv}};
 
 use crate::checks::{assert_gives, assert_is, assert_prints};
 use std::alloc::{AllocError, Global};
 use std::cell::Cell;
 use std::cmp::Ordering;
-use std::marker::Brand;
-use std::sync::ledger::{Blank, Ledger};
 use std::test::Fail;
-use vecmap::{Counter, VecMap, VecSet};
-use vecmap_base::{contains_by, find_by, find_item_by, partition_point};
+use vecmap::{VecMap, VecSet};
+use vecmap_base::{contains_equivalent, find_equivalent, find_item_equivalent, partition_point};
 
 /// A number, in an item of 16 bytes. A comparison of two counts for the first.
 #[derive(Clone, Copy)]
@@ -50,34 +48,28 @@ fn numbers(alloc: Global, comparisons: &Cell<u32>) -> Result<Vec<Counted<'_>>, A
     Ok(numbers)
 }
 
-/// Returns how often the searches of a slice that count compare a query: one of pairs, and two of items.
-fn comparisons_with<K: Eq + Copy, L: Ledger>(
+/// Returns how often the searches of a slice compare a query: one of pairs, and two of items.
+fn comparisons_with<K: Eq + Copy>(
     alloc: Global,
     items: &[K],
     query: &K,
     comparisons: &Cell<u32>,
-    counter: &mut Counter<L>,
 ) -> Result<[u32; 3], AllocError> {
     let mut pairs = Vec::new(alloc);
     for item in items {
         pairs.push((*item, ()))?;
     }
     comparisons.set(0);
-    let _index = find_by(&pairs, &query, counter);
+    let _index = find_equivalent(&pairs, query);
     let of_pairs = comparisons.replace(0);
-    let _index = find_item_by(items, &query, counter);
+    let _index = find_item_equivalent(items, query);
     let of_items = comparisons.replace(0);
-    let _found = contains_by(items, &query, counter);
+    let _found = contains_equivalent(items, query);
     Ok([of_pairs, of_items, comparisons.get()])
 }
 
 /// Prints how often they compare a number with the numbers up to 40, and with references to them.
-fn print_comparisons<L: Ledger>(alloc: Global, blank: Blank, number: u32) -> Result<String, Fail>
-    requires same_name { blank.name ≡ L.name }
-    requires same_parts { blank.parts ≡ L.parts }
-    requires one_part { blank.parts ≡ 1 }
-{
-    let mut counter: Counter<L> = Counter::open(blank);
+fn print_comparisons(alloc: Global, number: u32) -> Result<String, Fail> {
     let comparisons = &Cell::new(0);
     let numbers = numbers(alloc, comparisons)?;
     let mut references = Vec::new(alloc);
@@ -88,21 +80,21 @@ fn print_comparisons<L: Ledger>(alloc: Global, blank: Blank, number: u32) -> Res
         number,
         comparisons,
     };
-    let large = comparisons_with(alloc, &numbers, query, comparisons, &mut counter)?;
-    let small = comparisons_with(alloc, &references, &query, comparisons, &mut counter)?;
+    let large = comparisons_with(alloc, &numbers, query, comparisons)?;
+    let small = comparisons_with(alloc, &references, &query, comparisons)?;
     Ok(format!(in alloc; "{large:?} {small:?}")?)
 }
 
 // Among elements of 8 bytes, up to seven comparisons come after the match.
 #[test]
-fn searches_that_count_compare_no_further_than_the_match(rt: HostRuntime) -> Result<(), Fail> {
+fn searches_compare_no_further_than_the_match(rt: HostRuntime) -> Result<(), Fail> {
     for (number, expected) in [
         (0, "[1, 1, 1] [1, 8, 8]"),
         (20, "[21, 21, 21] [21, 24, 24]"),
         (40, "[41, 41, 41] [41, 41, 41]"),
         (41, "[41, 41, 41] [41, 41, 41]"),
     ] {
-        let printed = print_comparisons::<Brand>(rt.alloc(), Blank::new(1), number);
+        let printed = print_comparisons(rt.alloc(), number);
         assert_prints(&rt, printed, expected)?;
     }
     Ok(())

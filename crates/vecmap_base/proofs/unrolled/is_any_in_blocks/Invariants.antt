@@ -1,5 +1,5 @@
-use Rattle.std.{proofs.Common.{◌≡◌, ◌+◌, ◌*◌, false, take}, specs.List.list_any}
+use Rattle.std.{proofs.Common.{◌≡◌, ◌*◌, false, take}, specs.List.list_any}
 use Rattle.vecmap_base.proofs.unrolled.is_any_in_blocks.Given as goal
 
 abbrev pub invariant-loop-eight : goal.invariant-loop-eight
-invariant-loop-eight g l = (g.C.Compare.made l.compare ≡ g.C.Compare.made l.initial.compare + 8 * l.eight) × (list_any (g.C.Compare.equal l.query) (take (8 * l.eight) l.items) ≡ false)
+invariant-loop-eight g l = list_any (g.Q.Equivalent.equivalent l.fn.query) (take (8 * l.eight) l.items) ≡ false

@@ -1,4 +1,0 @@
-use Rattle.vecmap_base.proofs.lookup.find_equivalent.Given as goal
-
-abbrev pub ghosts-find_equivalent_with : goal.ghosts-find_equivalent_with
-ghosts-find_equivalent_with g a = record { name = a.blank.name; parts = a.blank.parts }
