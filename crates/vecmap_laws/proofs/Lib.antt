@@ -5,7 +5,6 @@ pub mod AtNumbers
 pub mod AtTexts
 pub mod CloneEquality
 pub use Rattle.vecmap_base.proofs.CloneLemmas
-pub mod Combining
 mod ComparisonLemmas
 pub use Rattle.vecmap_map.proofs.ContentsLemmas
 pub mod DistinctAbsent
@@ -35,9 +34,7 @@ pub mod Keys
 pub use Rattle.vecmap_set.proofs.LazyLemmas
 pub mod Lookups
 pub mod LoopLemmas
-pub mod MapCongruence
 pub mod MapEquality
-pub mod NestedLemmas
 pub use Rattle.vecmap_set.proofs.OperatorLemmas
 pub mod Order
 pub mod NewKeys
@@ -47,8 +44,6 @@ pub mod Parts
 pub mod PositionLemmas
 pub mod Puts
 pub mod Queries
-pub mod QueriesAfter
-pub mod Rearranged
 pub mod Recursion
 pub mod RemovalLemmas
 pub mod Rules
@@ -57,9 +52,7 @@ pub mod SetEquality
 pub mod SetRelations
 pub mod SortedLemmas
 pub mod TextQueries
-pub mod TwoKeys
 pub mod UpdatedLemmas
 pub mod Values
 pub mod WalkLemmas
-pub mod WholeLemmas
 pub mod WriteLemmas

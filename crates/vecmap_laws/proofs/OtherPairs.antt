@@ -1,12 +1,11 @@
 -- What a removal, an insertion, a write and a placement leave of the other pairs. The idea: the list without the key is
 -- the same before and after, and a placement is an insertion into that list.
 use Rattle.std.proofs.lemmas.Grind.{common_steps}
-use Rattle.std.proofs.Common.{◌≡◌, ◌≤◌, ℕ, Bool, true, false, List, [], ◌∷◌, ◌++◌, None, Option, Some, ap, arith, if◌then◌else◌, insert, length, min, refl, remove, set, slice_get, suc, sym, zero, ◌∙◌}
+use Rattle.std.proofs.Common.{◌≡◌, ◌≤◌, ℕ, Bool, List, [], ◌∷◌, ◌++◌, None, Option, Some, ap, arith, if◌then◌else◌, insert, length, min, refl, remove, set, slice_get, suc, sym, zero, ◌∙◌}
 use Rattle.std.proofs.lemmas.{List.drop_min, List.set-get_or, List.take_min, List.Edits.length-remove, List.Quantifiers.position-Some, Option.get_or_from_slice_get, Option.slice_get_within}
-use Rattle.std.specs.{Cmp.IsEquivalence, Map.set_value, Option.option_map_or}
+use Rattle.std.specs.{Cmp.IsEquivalence, Option.option_map_or}
 use Rattle.vecmap_base.proofs.PairsLemmas.{ByIndex.index_by_is, ByIndex.without_by_index, Puts.put_absent}
 use Rattle.vecmap_base.specs.{Items.swap_without, Pairs.{HasDistinctKeys, index_of, lookup, put, put_at, swap_without_key, without_key}}
-use Rattle.vecmap_map.specs.Contents.{Contents, with_value_of}
 use Rattle.vecmap_laws.proofs.{AfterPuts.index_of_without_key, Inserted.{absent_first, index_none, insert_where_removed, without_key_at}}
 use Rattle.vecmap_laws.proofs.{Puts.{put_at_absent, put_at_present}, RemovalLemmas.passing_at}
 
@@ -58,18 +57,6 @@ module _ {K V : Type 0} (eq : K → K → Bool) where
   module _ (o : IsEquivalence eq) where
     own_first : (l : List (K × V)) (k : K) (v : V) → without_key eq ((k, v) ∷ l) k ≡ l
     own_first l k v = ap (λ b. if b then l else (k, v) ∷ without_key eq l k) (o.refl k)
-
-    -- A write of the value of a key leaves the pairs of the other keys.
-    pub without_written : (m : Contents K V) (k : K) (v : V) → without_key eq (with_value_of eq m k v).entries k ≡ without_key eq m.entries k
-    without_written m k v = removed m.entries
-      where
-        removed : (l : List (K × V)) → without_key eq (set_value (eq k) l v) k ≡ without_key eq l k
-        removed [] = refl
-        removed (p ∷ ps) = by (eq k p.0) refl (removed ps)
-          where
-            by : (b : Bool) → eq k p.0 ≡ b → without_key eq (set_value (eq k) ps v) k ≡ without_key eq ps k → without_key eq (if b then (p.0, v) ∷ ps else p ∷ set_value (eq k) ps v) k ≡ (if b then ps else p ∷ without_key eq ps k)
-            by true e more = ap (λ b. if b then ps else (p.0, v) ∷ without_key eq ps k) e
-            by false e more = ap (λ b. if b then set_value (eq k) ps v else p ∷ without_key eq (set_value (eq k) ps v) k) e ∙ ap (λ m. p ∷ m) more
 
     without_inserted : (l : List (K × V)) (i : ℕ) (k : K) (v : V) → index_of eq l k ≡ None → without_key eq (insert l i (k, v)) k ≡ l
     without_inserted [] zero k v none = own_first [] k v

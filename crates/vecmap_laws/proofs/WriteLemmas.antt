@@ -1,10 +1,10 @@
 -- A write of the value that a key or a query finds, and what lookups find after it. The idea: the write is `put` of any
 -- key that the query matches, so the lemmas on `put` hold.
-use Rattle.std.specs.{Option.option_map_or, Cmp.{IsEquivalence, Lexicographic.nat_list_eq_equiv}, declared.alloc.Global.Global}
-use Rattle.std.specs.Map.{IsKeyTest, keys_of, set_value}
-use Rattle.std.proofs.Common.{arith, ◌≡◌, ℕ, Bool, List, [], ◌∷◌, None, Some, IsSome, true, ap, refl, sym, ◌∙◌, false, IsTrue, bytes_eq}
-use Rattle.std.proofs.{Common.{string_bytes, string_eq, String, subst, if◌then◌else◌}, lemmas.Map.{keys-set_value, Steps.set_value_same}}
-use Rattle.vecmap_base.specs.Pairs.{index_of, put, with_value, has_text, index_by, lookup, lookup_by}
+use Rattle.std.specs.{Cmp.{IsEquivalence, Lexicographic.nat_list_eq_equiv}, declared.alloc.Global.Global}
+use Rattle.std.specs.Map.{IsKeyTest, set_value}
+use Rattle.std.proofs.Common.{arith, ◌≡◌, ℕ, Bool, List, [], ◌∷◌, Some, IsSome, true, ap, refl, sym, ◌∙◌, false, IsTrue, bytes_eq}
+use Rattle.std.proofs.{Common.{string_bytes, string_eq, String, subst, if◌then◌else◌}, lemmas.Map.Steps.set_value_same}
+use Rattle.vecmap_base.specs.Pairs.{index_of, put, has_text, index_by, lookup_by}
 use Rattle.vecmap_base.proofs.PairsLemmas.{ByIndex.{put_by_index, set_value_by_index, is_some_lookup_by}, Updates.updates_write}
 use Rattle.vecmap_map.specs.Contents.{Contents, with_entries, with_value_of, with_value_by}
 use Rattle.vecmap_laws.proofs.{ItemQueries.tells_as, Queries.{string_equality, text_respects}}
@@ -14,10 +14,6 @@ module _ {K V : Type 0} (eq : K → K → Bool) where
   pub with_value_of_is_put : (m : Contents K V) (k : K) (v : V) → IsSome (index_of eq m.entries k) → (with_value_of eq m k v).entries ≡ put eq m.entries k v
   with_value_of_is_put m k v h = grind (arith, set_value_by_index, put_by_index)
 
--- A write does not change the keys.
-pub keys_of_with_value_by : {K V : Type 0} (test : K → Bool) (m : Contents K V) (v : V) → keys_of (with_value_by test m v).entries ≡ keys_of m.entries
-keys_of_with_value_by test m v = keys-set_value test m.entries v
-
 -- A query that matches none of the keys that a write matches finds what it found before.
 lookup_set_value_apart : {K V : Type 0} (test other : K → Bool) → ((k : K) → IsTrue (test k) → other k ≡ false) → (l : List (K × V)) (v : V) → lookup_by other (set_value test l v) ≡ lookup_by other l
 lookup_set_value_apart test other apart [] v = refl
@@ -26,10 +22,6 @@ lookup_set_value_apart {K} {V} test other apart (p ∷ ps) v = by (test p.0) ref
     by : (b : Bool) → test p.0 ≡ b → lookup_by other (set_value test ps v) ≡ lookup_by other ps → lookup_by other (if b then (p.0, v) ∷ ps else p ∷ set_value test ps v) ≡ lookup_by other (p ∷ ps)
     by true e more = (λ t. if apart p.0 e t then Some v else lookup_by other ps) ∙ sym (λ t. if apart p.0 e t then Some p.1 else lookup_by other ps)
     by false e more = ap (λ found. if other p.0 then Some p.1 else found) more
-
--- A write of a value that is absent changes nothing.
-pub written_absent : {K V : Type 0} (test : K → Bool) (m : Contents K V) (v : V) → index_by test m.entries ≡ None → with_value_by test m v ≡ m
-written_absent test m v none = ap (with_entries m) (set_value_by_index test m.entries v ∙ ap (λ found. option_map_or (λ i. with_value m.entries i v) found m.entries) none)
 
 -- A write of the value that a test finds changes nothing.
 pub written_back : {K V : Type 0} (test : K → Bool) (m : Contents K V) (v : V) → lookup_by test m.entries ≡ Some v → with_value_by test m v ≡ m
@@ -49,10 +41,6 @@ module _ {K V : Type 0} (eq : K → K → Bool) (o : IsEquivalence eq) (test : K
   -- A query that matches no such key finds what it found before.
   pub lookup_written_other_query : (other : K → Bool) → IsKeyTest eq other → ((k : K) → IsTrue (test k) → other k ≡ false) → (m : Contents K V) (v : V) → lookup_by other (with_value_by test m v).entries ≡ lookup_by other m.entries
   lookup_written_other_query other respects_other apart m v = lookup_set_value_apart test other apart m.entries v
-
-  -- A key that the query does not match finds what it found before.
-  pub lookup_written_other : (m : Contents K V) (v : V) (q : K) → test q ≡ false → lookup eq (with_value_by test m v).entries q ≡ lookup eq m.entries q
-  lookup_written_other m v q n = lookup_written_other_query (eq q) (o.congr q) (λ k h. o.symm q k ∙ sym (respects k q h) ∙ n) m v
 
 -- Two texts of different bytes match no string in common.
 pub texts_apart : (text other : List ℕ) → bytes_eq text other ≡ false → (k : String Global) → IsTrue (has_text text k) → has_text other k ≡ false

@@ -2,6 +2,5 @@ pub mod Agreement
 pub mod Algebra
 pub mod Combining
 pub mod FirstValue
-pub mod Nested
 pub mod Pulls
 pub mod Removals

@@ -4,7 +4,6 @@ mod distinct;
 mod equality;
 mod insertions;
 mod lookups;
-mod nested;
 mod removals;
 mod writes;
 
@@ -23,11 +22,8 @@ pub use insertions::{
     first_values_win, insertions_are_found, insertions_at_an_index_are_found,
 };
 pub use lookups::{equal_keys_find_the_same, queries_find_as_keys};
-pub use nested::{inner_insertions_are_found, values_are_found_by_two_keys};
 pub use removals::{
     appending_undoes_splitting, moves_keep_lookups, removals_are_forgotten,
     removals_by_index_are_undone, removals_shorten,
 };
-pub use writes::{
-    writes_are_insertions, writes_by_queries_are_insertions, writes_leave_other_keys,
-};
+pub use writes::{writes_are_insertions, writes_by_queries_are_insertions};

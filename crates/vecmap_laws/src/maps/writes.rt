@@ -1,6 +1,6 @@
 //! Laws of writes of a value that is found, as through `get_mut`.
-ghost use Rattle.std.specs.{Map.{IsKeyTest, keys_of}, Prelude.{Bool, IsSome, List, None, Some, false, true, ◌≡◌}};
-ghost use Rattle.vecmap_base.specs.Pairs.{index_by, index_of, lookup, lookup_by, put, without_key};
+ghost use Rattle.std.specs.{Map.IsKeyTest, Prelude.{Bool, IsSome, List, Some, false, true, ◌≡◌}};
+ghost use Rattle.vecmap_base.specs.Pairs.{index_by, index_of, lookup, lookup_by, put};
 ghost use Rattle.vecmap_map.specs.Contents.{Contents, with_value_by, with_value_of};
 
 /// An insertion of the value that its key already has changes nothing.
@@ -12,22 +12,6 @@ pub fn writes_are_insertions<K: Eq, V>()
         → put K.eq l k v ≡ l }
     ensures write { (m : Contents K V) (k : K) (v : V) → IsSome (index_of K.eq m.entries k)
         → (with_value_of K.eq m k v).entries ≡ put K.eq m.entries k v }
-{}
-
-/// A write of the value of a key leaves all other keys and values.
-///
-/// The key finds the written value. If it is absent, nothing changes.
-pub fn writes_leave_other_keys<K: Eq, V>()
-    ensures value { (m : Contents K V) (k : K) (v : V) → IsSome (index_of K.eq m.entries k)
-        → lookup K.eq (with_value_of K.eq m k v).entries k ≡ Some v }
-    ensures others { (m : Contents K V) (k : K) (v : V) (q : K) → K.eq k q ≡ false
-        → lookup K.eq (with_value_of K.eq m k v).entries q ≡ lookup K.eq m.entries q }
-    ensures keys { (m : Contents K V) (k : K) (v : V)
-        → keys_of (with_value_of K.eq m k v).entries ≡ keys_of m.entries }
-    ensures absent { (m : Contents K V) (k : K) (v : V) → index_of K.eq m.entries k ≡ None
-        → with_value_of K.eq m k v ≡ m }
-    ensures rest { (m : Contents K V) (k : K) (v : V)
-        → without_key K.eq (with_value_of K.eq m k v).entries k ≡ without_key K.eq m.entries k }
 {}
 
 /// A write of the value that a query finds is an insertion of each key that the query matches.

@@ -1,1 +1,0 @@
-pub use Rattle.vecmap_base.proofs.PairsLemmas.Order.{lookup_by_rearranged}
