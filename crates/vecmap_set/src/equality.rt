@@ -40,8 +40,9 @@ impl<T: Eq> VecSet<T> {
     ///
     /// # Complexity
     ///
-    /// No comparisons if this set is longer. Otherwise at most as many as the product of the lengths: each element is
-    /// looked up in `other`, up to the first that is not found.
+    /// No comparisons if this set is longer. Otherwise at most as many as the product of the lengths, and two more for
+    /// each element: each is looked up in `other`, up to the first that is not found. Among eight elements or more, the
+    /// two behind the one met before come first, so if the sets have the same order, or almost, the number is linear.
     ///
     /// # Examples
     ///
@@ -97,8 +98,8 @@ impl<T: Eq> VecSet<T> {
 ///
 /// # Complexity
 ///
-/// No comparisons if the lengths differ. Otherwise at most as many as the product of the lengths: the elements of the
-/// first set are looked up in the other, up to the first that is not found.
+/// No comparisons if the lengths differ. Otherwise as many as `is_subset` makes: at most the product of the lengths and
+/// two more for each element, and for sets in the same order a number that is linear.
 ///
 /// # Examples
 ///
