@@ -24,10 +24,11 @@ const MARKS_HUGE: usize = 16384;
 ///
 /// # Complexity
 ///
-/// For two lists of n pairs that are equal in the same order, n comparisons of keys. If at most 16,384 pairs remain, at
-/// most n² comparisons, and at most n(n + 1)/2 if the lists are equal and their keys are distinct. If more remain, the
-/// call counts each pair in both lists, with at most 2n² + 1 comparisons. Does not allocate. For more than 1,024 pairs in
-/// another order, it needs 16 KiB of the stack.
+/// For two lists of n pairs that are equal in the same order, n comparisons of keys. If at most 16,384 pairs remain,
+/// each is first compared with the pair behind the one that was matched before, so if few pairs have another place, the
+/// number stays linear. In any order, at most n(n + 1) comparisons, and at most n(n + 3)/2 if the lists are equal and
+/// their keys are distinct. If more remain, the call counts each pair in both lists, with at most 2n² + 1 comparisons.
+/// Does not allocate. For more than 1,024 pairs in another order, it needs 16 KiB of the stack.
 ///
 /// # Examples
 ///

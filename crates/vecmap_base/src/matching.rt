@@ -35,9 +35,13 @@ fn pairs_match<K: Eq, V: PartialEq>(a: &[(K, V)], b: &[(K, V)], taken: &mut [boo
         return false;
     };
     taken[1 + first] = true;
+    let mut next = first + 2;
     for i in 1..a.len() {
-        match find_free(b, taken, &a[i]) {
-            Some(index) => taken[index] = true,
+        match find_free_near(b, taken, next, &a[i]) {
+            Some(index) => {
+                taken[index] = true;
+                next = index + 1;
+            }
             None => return false,
         }
     }
@@ -57,6 +61,29 @@ pub(crate) fn pairs_match_crosswise<K: Eq, V: PartialEq>(a: &[(K, V)], b: &[(K, 
         return false;
     }
     is_same(&a[0], &b[1]) && is_same(&a[1], &b[0])
+}
+
+// Returns the index of a pair without a mark that has the same key and the same value as `pair`: `guess`, if that one
+// is such a pair, and else the first. The pair behind the one that was found before is a good guess: pairs that differ
+// in their place often keep their order.
+fn find_free_near<K: Eq, V: PartialEq>(
+    pairs: &[(K, V)],
+    taken: &[bool],
+    guess: usize,
+    pair: &(K, V),
+) -> Option<usize>
+    requires enough { length pairs.now ≤ length taken.now }
+    ensures within { IfSome result (λ i. i < length pairs.now) }
+    ensures unmarked { IfSome result (λ i. slice_index_or taken.now i true ≡ false) }
+    ensures equal { IfSome result (λ i. same_pair K.eq V.eq pair.now
+        (slice_index_or pairs.now i pair.now) ≡ true) }
+    ensures none { result ≡ None
+        → list_any (same_pair K.eq V.eq pair.now) (free pairs.now taken.now) ≡ false }
+{
+    if guess < pairs.len() && !taken[guess] && is_same(pair, &pairs[guess]) {
+        return Some(guess);
+    }
+    find_free(pairs, taken, pair)
 }
 
 // Returns the index of the first pair without a mark that has the same key and the same value as `pair`.

@@ -16,8 +16,9 @@ use vecmap_base::pairs_equal;
 /// If more than 16,384 pairs remain, it counts them in both maps instead. For maps of n pairs this needs
 ///
 /// - n comparisons of keys if the maps are equal and in the same order;
-/// - at most n(n + 1)/2 if the maps are equal, their keys are distinct, and at most 16,384 pairs remain;
-/// - at most n² in any other case, or 2n² + 1 if it counts.
+/// - at most n(n + 3)/2 if the maps are equal, their keys are distinct, and at most 16,384 pairs remain: few if most
+///   pairs follow one another in both maps;
+/// - at most n(n + 1) in any other case, or 2n² + 1 if it counts.
 ///
 /// Does not allocate. For more than 1,024 pairs in another order, it needs 16 KiB of the stack.
 ///

@@ -41,8 +41,8 @@ pub loop-i-preserved : goal.loop-i-preserved
 loop-i-preserved g c =
     let same = same_pair g.K.PartialEq.eq g.V.PartialEq.eq in
     let laws = same_pair_partial g.K.PartialEq.eq g.V.PartialEq.eq g.met.K.Eq.laws g.met.V.PartialEq.laws in
-    let index = c.in-Some-find_free.index in
-    let found = c.in-Some-find_free.ensures in (
+    let index = c.in-Some-find_free_near.index in
+    let found = c.in-Some-find_free_near.ensures in (
       one_matched_partial same laws c.args.a.now c.args.b.now c.loop-i.i index c.index-a-i.result c.loop-i.taken c.loop-i-test.true c.index-a-i.is found.within found.unmarked found.equal c.loop-i.invariant.0,
       omega (arith, c.loop-i.invariant.1, length-set c.loop-i.taken index true),
     )
