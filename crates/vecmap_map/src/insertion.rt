@@ -1,5 +1,5 @@
 //! Insertion of one pair.
-ghost use Rattle.std.specs.Prelude.{◌≡◌, ◌^◌, ◌++◌, ◌∷◌, ◌<◌, ◌≤◌, ◌⊎◌, Err, IfErr, IfOk, IfSome, IsTrue, None, Ok, OnErr, OnOk, Some, [], length};
+ghost use Rattle.std.specs.Prelude.{◌≡◌, ◌^◌, ◌++◌, ◌∷◌, ◌<◌, ◌≤◌, ◌⊎◌, Err, IfErr, IfOk, IfSome, IsTrue, None, Ok, OnErr, OnOk, Some, [], length, vec_capacity};
 ghost use Rattle.vecmap_base.specs.{Indices.HasMatchAt, Insertions.{AddsKey, InsertsAt, PutsKey}, Pairs.{index_by, index_or_length, lookup, lookup_indexed}, Removals.FindsPair};
 ghost use Rattle.vecmap_map.specs.Contents.{Appends, FailsToAppend, FindsOrAppends, HasRoom, KeepsRoom, KeepsRoomAt, Refuses, RefusesAt};
 
@@ -324,6 +324,25 @@ impl<K, V> VecMap<K, V> {
         if self.pairs.len() < self.pairs.capacity() {
             return Ok(());
         }
-        self.pairs.reserve(1)
+
+        // The vector is passed by value. If a call got its address, a loop that inserts would store and load its length
+        // for each pair.
+        let empty = Vec::new(*self.pairs.allocator());
+        let (pairs, result) = grown(replace(&mut self.pairs, empty));
+        replace(&mut self.pairs, pairs).destroy_empty();
+        result
     }
+}
+
+// Reserves capacity for one more item.
+#[inline(never)]
+fn grown<T>(mut items: Vec<T>) -> (Vec<T>, Result<(), AllocError>)
+    ensures items { result.0.items ≡ items.items }
+    ensures room { OnOk result.1 (length result.0.items < vec_capacity result.0) }
+    ensures capacity { vec_capacity items ≤ vec_capacity result.0 }
+    ensures err { OnErr result.1 ((vec_capacity items ≤ length items.items)
+        × (vec_capacity result.0 ≡ vec_capacity items)) }
+{
+    let result = items.reserve(1);
+    (items, result)
 }
