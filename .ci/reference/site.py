@@ -164,6 +164,10 @@ def make(work, out):
         write(f"{out}/{page}", text)
     for page in files(f"{out}/static.files/[ms]*.js"):
         write(page, CONSTANT.sub("Definition", read(page)).replace('type","constant"', 'type","definition"'))
+    for page in files(f"{out}/static.files/search-*.js"):  # Names in their own case first; of equal ones those of maps.
+        text = read(page).replace("if(isMixedCase){a=", "{a=")
+        sides = "".join(f'{it}=Number({it}{it}i.parent?.name!=="VecMap");' for it in "ab")
+        write(page, text.replace("a=Number(aai.ty);", f"{sides}if(a!==b){{return a-b;}}a=Number(aai.ty);"))
     # Nobody else can name the trait `Predicate`.
     lost = [f"{it.where} is not on the site" for it in BLOCKS if not it.place and not it.title.startswith("Predicate")]
     return [*FAULTS, *lost, *link_faults(texts, out), *picture_faults(texts["vecmap/struct.VecMap.html"])]
