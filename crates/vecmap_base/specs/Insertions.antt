@@ -5,7 +5,7 @@ use Rattle.std.specs.Map.{keys_of}
 use Rattle.vecmap_base.specs.{Lookups.UpdatesBy, Pairs.{HasDistinctKeys, index_by, index_of, index_or_length, lookup, put, put_at, put_key}}
 
 -- Example: from `[(1,a)]` to `[(1,a), (2,b)]` for the pair `(2,b)`.
--- An insertion of the pair `(k, v)` into the list `l` leaves each key at its index, and appends a new key.
+-- The list `m` is the list `l` after an insertion of `(k, v)`: the value of `k` is `v`, at its index, or the pair is new and last.
 pub record AddsKey {K V : Type 0} (eq : K → K → Bool) (l : List (K × V)) (k : K) (v : V) (m : List (K × V)) : Type 0 where
   pub entries : m ≡ put eq l k v
   -- What lookups find: the value for the key, and for each other key what they found. Distinct keys stay distinct.
@@ -23,7 +23,7 @@ pub record AddsKey {K V : Type 0} (eq : K → K → Bool) (l : List (K × V)) (k
   pub same : (w : V) → IsSome (lookup eq l k) → v ≡ unwrap_or (lookup eq l k) w → m ≡ l
 
 -- Example: from `[(1x,a)]` to `[(1y,b)]` for the pair `(1y,b)`.
--- An insertion that replaces an equal key leaves each key at its index, has `(k, v)` at that of `k`, and appends a new pair.
+-- The list `m` is the list `l` with `(k, v)` in place of the pair of an equal key, or at the end if there is none.
 pub record PutsKey {K V : Type 0} (eq : K → K → Bool) (l : List (K × V)) (k : K) (v : V) (m : List (K × V)) : Type 0 where
   pub entries : m ≡ put_key eq l k v
   -- What lookups find: the value for the key, and for each other key what they found. Distinct keys stay distinct.
@@ -38,7 +38,7 @@ pub record PutsKey {K V : Type 0} (eq : K → K → Bool) (l : List (K × V)) (k
   pub keys : ((q : K) → eq k q ≡ true → q ≡ k) → keys_of m ≡ (if is_some (lookup eq l k) then keys_of l else keys_of l ++ k ∷ [])
 
 -- Example: from `[(1,a)]` to `[(2,b), (1,a)]` for the pair `(2,b)` and the index 0.
--- An insertion of the pair `(k, v)` at the index `i` of the list `l` has a new key there, and the pairs before it stay.
+-- The list `m` is the list `l` without an equal key, and with `(k, v)` at the index `i`, or at the end if it is shorter.
 pub record InsertsAt {K V : Type 0} (eq : K → K → Bool) (i : ℕ) (l : List (K × V)) (k : K) (v : V) (m : List (K × V)) : Type 0 where
   pub entries : m ≡ put_at eq l i k v
   -- What lookups find: the value for the key, and for each other key what they found. Distinct keys stay distinct.

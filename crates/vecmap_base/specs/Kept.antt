@@ -33,14 +33,14 @@ module _ {F K V : Type 0} (R : F → K × V → Bool → K × V → F → Type 0
   ReturnsAtKey f test kept = (p : K × V) (b : Bool) (q : K × V) (g : F) → R f p b q g → (test p.0 ≡ true → (b ≡ kept) × (q.1 ≡ p.1)) × (g ≡ f)
 
   -- Example: of a closure that keeps the values above 5: from `[(1,7), (2,4)]` to `[(1,7)]`.
-  -- The closure in the state `f` leaves the list `m` of `l`.
+  -- How many pairs of `l` the closure leaves in `m` from the state `f` on, and which if it only tests them.
   pub record Retains (f : F) (l m : List (K × V)) : Type 0 where
     pub len : length m ≤ length l
     pub filters : (keep : K × V → Bool) → TestsItems R f keep → m ≡ filter keep l
     pub same : (test : K → Bool) → lookup_by test l ≡ None → ReturnsAtKey f (λ k. not (test k)) true → KeepsKeys → m ≡ l
 
   -- Example: of a closure that keeps the values above 5: from `[(1,7), (2,4)]` to `[(1,7)]`.
-  -- The closure in the state `f`, which writes no key, leaves the list `m` of `l`.
+  -- The list `m` has the pairs of `l` for which the closure returned `true`, called in order from the state `f` on, as it left them.
   pub record RetainsPairs (f : F) (l m : List (K × V)) : Type 0 where
     pub retained : (g : F) × Kept R f l m g
     -- What lookups find if what the closure does depends on the value alone.

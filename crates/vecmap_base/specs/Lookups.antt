@@ -25,7 +25,7 @@ module _ {K V : Type 0} (eq : K → K → Bool) where
 
 module _ {K V : Type 0} where
   -- Example: `[(1,a)]`, the first pair of `[(1,a), (2,b)]`.
-  -- Each query whose match is among the first `n` pairs of `l` finds in the list `m` what it found, and any other nothing.
+  -- The list `m` has the first `n` pairs of the list `l`: a query whose match is there finds it, and any other nothing.
   pub record KeepsFront (n : ℕ) (l m : List (K × V)) : Type 0 where
     pub entries : m ≡ take n l
     pub found : (test : K → Bool) (i : ℕ) → index_by test l ≡ Some i → i < n → lookup_by test m ≡ lookup_by test l
@@ -38,8 +38,8 @@ module _ {K V : Type 0} where
     pub len : length m ≡ min n (length l)
 
   -- Example: from `[(1,a), (2,b)]` to `[(2,b), (1,a)]`.
-  -- Each query matches a key of the list `m` exactly if it matches one of `l`, and finds what it found if all keys of
-  -- `l` are distinct. The lists have the same length, and are equal as maps.
+  -- So a query matches a key of `m` exactly if it matches one of `l`, and finds what it found if all keys are distinct.
+  -- The list `m` has the pairs of the list `l`, in some order.
   pub record IsReordered (l m : List (K × V)) : Type 0 where
     pub rearranged : IsPermutation l m
     pub matches : (test : K → Bool) → is_some (index_by test m) ≡ is_some (index_by test l)
