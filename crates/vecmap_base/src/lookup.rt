@@ -93,10 +93,7 @@ pub fn find_item_str(items: &[String], text: &str) -> Option<usize>
 pub fn contains_item<T: Eq>(items: &[T], item: &T) -> bool
     ensures { result ≡ is_member T.eq items.now item.now }
 {
-    if are_small(items, MIN_LENGTH_FOR_BLOCKS) {
-        return contains_in_blocks(items, item);
-    }
-    contains_by_std(items, item)
+    contains_equivalent(items, item)
 }
 
 /// Like [`contains_item`], but the loop over few items is inlined.
@@ -111,18 +108,17 @@ pub fn contains_item_inline<T: Eq>(items: &[T], item: &T) -> bool
     ensures { result ≡ is_member T.eq items.now item.now }
 {
     if items.len() < MIN_LENGTH_FOR_CALL {
-        return contains_by_std(items, item);
+        return is_any_in_order(items, item);
     }
     contains_item(items, item)
 }
 
-// Like [`contains_item`], by std's loop, which is inlined. It is the fastest for few items: it does not count, and LLVM
-// makes twice as many instructions of a loop that counts.
+// Returns `true` if an item matches `query`. It is the fastest for few items, as it is inlined.
 #[inline(always)]
-pub(crate) fn contains_by_std<T: Eq>(items: &[T], item: &T) -> bool
-    ensures { result ≡ is_member T.eq items.now item.now }
+pub(crate) fn is_any_in_order<T: Eq, Q: Equivalent<T>>(items: &[T], query: Q) -> bool
+    ensures { result ≡ list_any (Q.equivalent query) items.now }
 {
-    items.iter().any(|other| *item == *other)
+    items.iter().any(|item| query.equivalent(item))
 }
 
 // Returns `true` if `items` has at least `least` items, and these are small.
@@ -243,13 +239,5 @@ pub fn contains_equivalent<T: Eq, Q: Equivalent<T>>(items: &[T], query: Q) -> bo
     if are_small(items, MIN_LENGTH_FOR_BLOCKS) {
         return is_any_in_blocks(items, query);
     }
-    items.iter().any(|item| query.equivalent(item))
-}
-
-// Like [`contains_item`], by `is_any_in_blocks`.
-#[inline(always)]
-pub(crate) fn contains_in_blocks<T: Eq>(items: &[T], item: &T) -> bool
-    ensures { result ≡ is_member T.eq items.now item.now }
-{
-    is_any_in_blocks(items, item)
+    is_any_in_order(items, query)
 }

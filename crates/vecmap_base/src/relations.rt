@@ -3,9 +3,9 @@ ghost use Rattle.std.specs.{Prelude.{◌≡◌, ◌↔◌, IfSome, IsTrue, []}, 
 ghost use Rattle.vecmap_base.specs.{Equality.is_within, Items.both};
 
 use crate::lookup::{
-    MIN_LENGTH_FOR_BLOCKS, MIN_LENGTH_FOR_CALL, are_small, contains_by_std, contains_in_blocks,
-    contains_item,
+    MIN_LENGTH_FOR_BLOCKS, MIN_LENGTH_FOR_CALL, are_small, contains_item, is_any_in_order,
 };
+use crate::unrolled::is_any_in_blocks;
 
 /// Returns `true` if each of `items` is equal to one of `others`.
 ///
@@ -29,7 +29,7 @@ pub fn is_subset_of<T: Eq>(items: &[T], others: &[T]) -> bool
     if others.len() >= MIN_LENGTH_FOR_CALL {
         return is_subset_around(items, others);
     }
-    items.iter().all(|item| contains_by_std(others, item))
+    items.iter().all(|item| is_any_in_order(others, item))
 }
 
 /// Returns `true` if none of `items` is equal to one of `others`.
@@ -60,7 +60,7 @@ fn overlap<T: Eq>(items: &[T], others: &[T]) -> bool
     if are_small(others, MIN_LENGTH_FOR_BLOCKS) {
         return overlap_blocks(items, others);
     }
-    items.iter().any(|item| contains_by_std(others, item))
+    items.iter().any(|item| is_any_in_order(others, item))
 }
 
 // The same as `is_subset_of`, for others that are not few. It is not inlined, so that its loop does not depend on the
@@ -105,5 +105,5 @@ fn behind_near<T: Eq>(others: &[T], next: usize, item: &T) -> Option<usize>
 fn overlap_blocks<T: Eq>(items: &[T], others: &[T]) -> bool
     ensures { result ≡ list_any (is_member T.eq others.now) items.now }
 {
-    items.iter().any(|item| contains_in_blocks(others, item))
+    items.iter().any(|item| is_any_in_blocks(others, item))
 }
