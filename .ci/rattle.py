@@ -23,12 +23,10 @@ DEFINED = [*LIBRARIES, LAWS]
 WRITES = sys.argv[1:2] == ["--write"]
 # The repository in which a script is to make a crate, if it is run with `make FOLDER`.
 FOLDER = os.path.abspath(sys.argv[2]) if sys.argv[1:2] == ["make"] else ""
-# The comment of a public definition, its indentation, its name, and the rest: lines up to an empty one.
-DEFINITION = re.compile(
-    r"((?:^ *-- .*\n)*)^( *)(?:abbrev pub|(?:unfoldable )?pub(?: record| data)?) (?!mod |use )([\w']+) "
-    r".*\n(?:.*\S.*(?:\n|\Z))*",
-    re.MULTILINE,
-)
+# The comment of a definition, its indentation, its name, and the rest: lines up to an empty one.
+FORM = r"((?:^ *-- .*\n)*)^( *)(?:%s)(?!mod |use )([\w']+) .*\n(?:.*\S.*(?:\n|\Z))*"
+PUBLIC = re.compile(FORM % r"abbrev pub |(?:unfoldable )?pub (?:record |data |ruleset )?", re.MULTILINE)
+ANY = re.compile(FORM % r"(?:(?:abbrev|unfoldable|pub|record|data) )*(?!(?:abbrev|module|pub|where) )", re.MULTILINE)
 NAME = re.compile(r"[A-Za-z_][\w']*")
 # The head of an `impl`: its parameters, which may have bounds with parameters, the trait if there is one, and the type.
 IMPL = re.compile(r"impl(?:<(?:->|[^<>]|<(?:->|[^<>]|<[^<>]*>)*>)*>)? (?:(.*) for )?(.*?)(?: where.*)?")
@@ -127,9 +125,7 @@ def dependencies():
 def definitions(path, also_private=False):
     """Returns the public definitions of a file, or all, each below the heads of the modules that it is in."""
     text, made = read(path), []
-    private = r"^( *)(?:abbrev pub|(?:unfoldable )?pub(?: record| data)?) (?!mod |use )"
-    form = re.compile(DEFINITION.pattern.replace(private, r"^( *)(?:(?:abbrev|unfoldable|record|data|pub) )*(?!(?:mod|use|module|pub|abbrev|where)\b)"), re.MULTILINE)
-    for found in (form if also_private else DEFINITION).finditer(text):
+    for found in (ANY if also_private else PUBLIC).finditer(text):
         comment, indent, name = found.groups()
         start, heads, depth = found.start(2), [], len(indent)
         for space, head in reversed(re.findall("^( *)(module .*)", text[:start], re.MULTILINE)):
