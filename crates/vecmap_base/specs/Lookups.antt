@@ -64,6 +64,7 @@ module _ {K V : Type 0} where
   -- `pairs`, or else its value in `l`.
   pub record Joins (eq : K → K → Bool) (l pairs m : List (K × V)) : Type 0 where
     pub lookups : HasDistinctKeys eq pairs → (q : K) → lookup eq m q ≡ option_or (lookup eq pairs q) (lookup eq l q)
+    pub queries : (test : K → Bool) → IsKeyTest eq test → HasDistinctKeys eq pairs → lookup_by test m ≡ option_or (lookup_by test pairs) (lookup_by test l)
     pub distinct : HasDistinctKeys eq l → HasDistinctKeys eq m
     pub indices : (test : K → Bool) (i : ℕ) → index_by test l ≡ Some i → index_by test m ≡ Some i
     pub len : length m ≤ length l + length pairs
@@ -76,6 +77,7 @@ module _ {K V : Type 0} where
     pub entries : m ≡ puts eq [] pairs
     pub as_given : HasDistinctKeys eq pairs → m ≡ pairs
     pub lookups : HasDistinctKeys eq pairs → (q : K) → lookup eq m q ≡ lookup eq pairs q
+    pub queries : (test : K → Bool) → HasDistinctKeys eq pairs → lookup_by test m ≡ lookup_by test pairs
     pub distinct : HasDistinctKeys eq m
     pub len : length m ≤ length pairs
     pub not_empty : 0 < length pairs → 0 < length m

@@ -1,13 +1,13 @@
 -- What lookups find in the front of a list, after the insertions of many pairs, and whether anything matches in another order.
-use Rattle.std.specs.{Cmp.IsEquivalence, List.IsDistinct, List.Sorted.IsPermutation, Map.keys_of, Option.option_or}
+use Rattle.std.specs.{Cmp.IsEquivalence, List.IsDistinct, List.Sorted.IsPermutation, Map.{IsKeyTest, keys_of}, Option.option_or}
 use Rattle.std.proofs.Common.{◌≡◌, ◌∙◌, ◌<◌, ◌≤◌, ℕ, zero, suc, Bool, true, false, List, [], ◌∷◌, ◌++◌, None, Some, ap, arith, cond, drop, is_some, refl, subst, sym, take}
 use Rattle.std.proofs.{lemmas.Bool.cases_Bool, lemmas.List.{length-take, map-append, take-append-drop, take-map, append-nil, append_assoc}}
 use Rattle.std.proofs.{lemmas.List.Sorted.{list_any-IsPermutation, IsPermutation-append_comm}, lemmas.Map.lookup-none}
 use Rattle.std.proofs.{lemmas.Map.Entries.none_past_head, lemmas.Map.Keys.IsDistinct-tail, lemmas.Option.{none-some, same_Some}}
-use Rattle.vecmap_base.specs.{Lookups.{Joins, KeepsFront, MakesPairs}, Pairs.{HasDistinctKeys, index_by, lookup, lookup_by, put, puts}}
+use Rattle.vecmap_base.specs.{Lookups.{Joins, KeepsFront, MakesPairs}, Pairs.{HasDistinctKeys, index_by, lookup_by, put, puts}}
 use Rattle.vecmap_base.proofs.{DistinctLemmas.{Absent.distinct_none, Removals.{distinct_front, distinct_take}}, IndexLemmas.is_some_position}
 use Rattle.vecmap_base.proofs.InsertionLemmas.{indices_put}
-use Rattle.vecmap_base.proofs.PairsLemmas.{AtIndices.index_in_front, ByIndex.{index_by_is, index_by_none, is_some_lookup_by}, Distinct.distinct_keys_rearranged, Distinct.distinct_put, Lookups.updates_put, Puts.{length_puts_at_most, length_puts_least}, Puts.put_absent, Puts.puts_not_empty}
+use Rattle.vecmap_base.proofs.PairsLemmas.{AtIndices.index_in_front, ByIndex.{index_by_is, index_by_none, is_some_lookup_by}, Distinct.distinct_keys_rearranged, Distinct.distinct_put, Lookups.{compares_with, lookup_by_put}, Puts.{length_puts_at_most, length_puts_least}, Puts.put_absent, Puts.puts_not_empty}
 
 module _ {K V : Type 0} (test : K → Bool) where
   -- A lookup in a list of two parts finds what the first part has, or else what the second has.
@@ -54,17 +54,15 @@ module _ {K V : Type 0} where
   keeps_front_of n l m e = subst (KeepsFront n l) (sym e) (keeps_front n l)
 
 module _ {K V : Type 0} (eq : K → K → Bool) (o : IsEquivalence eq) where
-  pub found_in_either : (l pairs : List (K × V)) → HasDistinctKeys eq pairs → (q : K) → lookup eq (puts eq l pairs) q ≡ option_or (lookup eq pairs q) (lookup eq l q)
-  found_in_either l [] d q = refl
-  found_in_either l (p ∷ ps) d q =
-      found_in_either (put eq l p.0 p.1) ps (IsDistinct-tail eq p.0 _ d) q
-      ∙ ap (option_or (lookup eq ps q)) ((updates_put eq o l p.0 p.1).lookups q) ∙ by (eq p.0 q) refl
+  -- After insertions of pairs with distinct keys, a query finds what it finds in them, or else what it found.
+  pub found_in_either : (test : K → Bool) → IsKeyTest eq test → (l pairs : List (K × V)) → HasDistinctKeys eq pairs → lookup_by test (puts eq l pairs) ≡ option_or (lookup_by test pairs) (lookup_by test l)
+  found_in_either test respects l [] d = refl
+  found_in_either test respects l (p ∷ ps) d =
+      found_in_either test respects (put eq l p.0 p.1) ps (IsDistinct-tail eq p.0 _ d) ∙ ap (option_or (lookup_by test ps)) (lookup_by_put eq o test respects l p.0 p.1) ∙ by (test p.0) refl
     where
-      by : (b : Bool) → eq p.0 q ≡ b → option_or (lookup eq ps q) (cond b (Some p.1) (lookup eq l q)) ≡ option_or (cond (eq q p.0) (Some p.1) (lookup eq ps q)) (lookup eq l q)
-      by true e =
-          ap (λ found. option_or found (Some p.1)) (lookup-none (eq q) ps (none_past_head o q p ps d (o.symm q p.0 ∙ e)))
-          ∙ sym (ap (λ b. option_or (cond b (Some p.1) (lookup eq ps q)) (lookup eq l q)) (o.symm q p.0 ∙ e))
-      by false e = sym (ap (λ b. option_or (cond b (Some p.1) (lookup eq ps q)) (lookup eq l q)) (o.symm q p.0 ∙ e))
+      by : (b : Bool) → test p.0 ≡ b → option_or (lookup_by test ps) (cond b (Some p.1) (lookup_by test l)) ≡ option_or (cond b (Some p.1) (lookup_by test ps)) (lookup_by test l)
+      by true e = ap (λ found. option_or found (Some p.1)) (subst (λ t. lookup_by t ps ≡ None) (sym (compares_with eq o test respects p.0 e)) (lookup-none (eq p.0) ps (none_past_head o p.0 p ps d (o.refl p.0))))
+      by false e = refl
 
   distinct_after : (l pairs : List (K × V)) → HasDistinctKeys eq l → HasDistinctKeys eq (puts eq l pairs)
   distinct_after l [] d = d
@@ -91,7 +89,16 @@ module _ {K V : Type 0} (eq : K → K → Bool) (o : IsEquivalence eq) where
 
   -- After the insertions of many pairs.
   pub joins_of_puts : (l pairs m : List (K × V)) → m ≡ puts eq l pairs → Joins eq l pairs m
-  joins_of_puts l pairs m e = grind (arith, found_in_either, distinct_after, indices_after, length_puts_at_most, length_puts_least, puts_not_empty, puts_apart)
+  joins_of_puts l pairs m e =
+      subst (Joins eq l pairs) (sym e) (record {
+        lookups = λ d q. found_in_either (eq q) (o.congr q) l pairs d;
+        queries = λ test respects. found_in_either test respects l pairs;
+        distinct = distinct_after l pairs;
+        indices = λ test. indices_after test l pairs;
+        len = length_puts_at_most eq l pairs;
+        at_least = length_puts_least eq l pairs;
+        not_empty = puts_not_empty eq l pairs;
+      })
 
   -- The same of the empty list.
   pub makes_pairs : (pairs m : List (K × V)) → m ≡ puts eq [] pairs → MakesPairs eq pairs m
