@@ -32,6 +32,11 @@ module _ {F K V : Type 0} (R : F → K × V → Bool → K × V → F → Type 0
   abbrev pub ReturnsAtKey : F → (K → Bool) → Bool → Type 0
   ReturnsAtKey f test kept = (p : K × V) (b : Bool) (q : K × V) (g : F) → R f p b q g → (test p.0 ≡ true → (b ≡ kept) × (q.1 ≡ p.1)) × (g ≡ f)
 
+  -- Example: of a closure that keeps the values above 5, at 7: `true`.
+  -- Each call in the state `f` leaves that state. At the value `v` it returns `kept` and leaves the value.
+  abbrev pub ReturnsAtValue : F → V → Bool → Type 0
+  ReturnsAtValue f v kept = (p : K × V) (b : Bool) (q : K × V) (g : F) → R f p b q g → (p.1 ≡ v → (b ≡ kept) × (q.1 ≡ p.1)) × (g ≡ f)
+
   -- Example: of a closure that keeps the values above 5: from `[(1,7), (2,4)]` to `[(1,7)]`.
   -- How many pairs of `l` the closure leaves in `m` from the state `f` on, and which if it only tests them.
   pub record Retains (f : F) (l m : List (K × V)) : Type 0 where
@@ -49,6 +54,9 @@ module _ {F K V : Type 0} (R : F → K × V → Bool → K × V → F → Type 0
     pub selected : (test : K → Bool) (kept : Bool) → ReturnsAtKey f test kept → lookup_by test m ≡ (if kept then lookup_by test l else None)
     pub stays : (test : K → Bool) → ReturnsAtKey f test true → lookup_by test m ≡ lookup_by test l
     pub gone : (test : K → Bool) → ReturnsAtKey f test false → lookup_by test m ≡ None
+    -- What a query finds that found the value `v`, if the closure returns the same at each such value.
+    pub value_stays : (test : K → Bool) (v : V) → lookup_by test l ≡ Some v → ReturnsAtValue f v true → lookup_by test m ≡ Some v
+    pub value_gone : (test : K → Bool) (v : V) → lookup_by test l ≡ Some v → ReturnsAtValue f v false → (eq : K → K → Bool) → HasDistinctKeys eq l → IsKeyTest eq test → lookup_by test m ≡ None
     pub distinct : (eq : K → K → Bool) → HasDistinctKeys eq l → HasDistinctKeys eq m
     -- How many pairs are left, and which if the closure only tests them.
     pub left : Retains f l m

@@ -1,5 +1,4 @@
 pub mod EntryLemmas
 mod LentLemmas
 pub mod ContentsLemmas
-pub mod KeptValues
 pub mod MadeLemmas

@@ -3,7 +3,6 @@ pub mod Drain
 pub mod Entry
 pub mod EntryLends
 pub mod EntryWithin
-pub mod KeptValues
 pub mod Lends
 pub mod MapBulk
 pub mod formers

