@@ -2,9 +2,9 @@
 //!
 //! The iterator holds a reference to the map and no vector. So the proof of a caller knows what the map has once the
 //! drain is dropped.
-ghost use Rattle.std.specs.{Prelude.{◌≡◌, ◌<◌, ◌≤◌, ◌^◌, length, slice_range}, Iterator.at_most, List.remove_range};
+ghost use Rattle.std.specs.{Prelude.{◌≡◌, ◌<◌, ◌≤◌, ◌^◌, length, slice_range}, Bound.{end_index, start_index}, Iterator.at_most, List.remove_range};
 ghost use Rattle.std.specs.Iterator.Runs.{YieldsInOrder, YieldsInReverse};
-ghost use Rattle.vecmap_base.specs.{Drain.KeepsAlong, Iterators.HintsExactly};
+ghost use Rattle.vecmap_base.specs.{Drain.KeepsAlong, Iterators.HintsExactly, Lookups.KeepsFront};
 ghost use Rattle.vecmap_base.specs.Ranges.{AreEndsWithin, IsRangeWithin, items_between, without_between};
 ghost use Rattle.vecmap_map.specs.Drain.{DrainKeeps, DrainNext, DrainNextBack, drain_capacity, drain_kept, drain_lender, drain_rest};
 
@@ -56,6 +56,8 @@ impl<K, V> VecMap<K, V> {
         // Once the drain is dropped, after any number of calls, the map has the other pairs and its old capacity.
         ensures kept { drain_kept result
             ≡ without_between self.old.entries (R.start_bound range) (R.end_bound range) }
+        ensures front { end_index (R.end_bound range) (length self.old.entries) ≡ length self.old.entries
+            → KeepsFront (start_index (R.start_bound range)) self.old.entries (drain_kept result) }
         ensures capacity { drain_capacity result ≡ self.old.capacity }
         ensures same_map { drain_lender result ≡ self.entry.ghost_name }
         ensures keeps { KeepsAlong DrainNext DrainKeeps result }

@@ -1,10 +1,11 @@
 //! The call `drain`, and its iterator, which removes a range of elements from a set.
 //!
 //! The iterator holds a reference to the set and no vector, so the elements of the set are distinct at any moment.
-ghost use Rattle.std.specs.{Prelude.{◌≡◌, ◌<◌, ◌≤◌, ◌^◌, length, slice_range}, Iterator.at_most, List.{IsDistinct, remove_range}};
+ghost use Rattle.std.specs.{Prelude.{◌≡◌, ◌<◌, ◌≤◌, ◌^◌, length, slice_range}, Bound.{end_index, start_index}, Iterator.at_most, List.{IsDistinct, remove_range}};
 ghost use Rattle.std.specs.Iterator.Runs.{YieldsInOrder, YieldsInReverse};
 ghost use Rattle.vecmap_base.specs.{Drain.KeepsAlong, Iterators.HintsExactly};
 ghost use Rattle.vecmap_base.specs.Ranges.{AreEndsWithin, IsRangeWithin, items_between, without_between};
+ghost use Rattle.vecmap_set.specs.Removals.{KeepsFrontItems};
 ghost use Rattle.vecmap_set.specs.Drain.{DrainKeeps, DrainNext, DrainNextBack, drain_capacity, drain_kept, drain_lender, drain_rest};
 
 use crate::VecSet;
@@ -54,6 +55,9 @@ impl<T: Eq> VecSet<T> {
         // Once the drain is dropped, after any number of calls, the set has the other elements and its old capacity.
         ensures kept { drain_kept result
             ≡ without_between self.old.elements (R.start_bound range) (R.end_bound range) }
+        ensures front { end_index (R.end_bound range) (length self.old.elements)
+            ≡ length self.old.elements → KeepsFrontItems (start_index (R.start_bound range))
+            self.old.elements (drain_kept result) }
         ensures capacity { drain_capacity result ≡ self.old.capacity }
         ensures same_set { drain_lender result ≡ self.entry.ghost_name }
         ensures keeps { KeepsAlong DrainNext DrainKeeps result }
