@@ -1,6 +1,6 @@
 -- The records of calls that add or copy many elements, from the list that is left.
 use Rattle.std.specs.{Cmp.IsEquivalence, List.IsDistinct, Set.is_member}
-use Rattle.std.proofs.Common.{◌≡◌, ◌∙◌, ◌+◌, ◌++◌, ◌≤◌, Bool, Contains, IsTrue, List, [], ◌∷◌, ap, arith, false, if◌then◌else◌, length, length-append, subst, sym, true}
+use Rattle.std.proofs.Common.{◌≡◌, ◌∙◌, ◌+◌, ◌++◌, ◌<◌, ◌≤◌, Bool, Contains, IsTrue, List, [], ◌∷◌, ap, arith, false, if◌then◌else◌, length, length-append, subst, sym, true}
 use Rattle.std.proofs.lemmas.{Bool.or_right, List.append-nil, List.append_assoc, Map.Made.length-le_from_is_member}
 use Rattle.vecmap_base.specs.{Clones.AreClones, Items.adds}
 use Rattle.vecmap_base.proofs.{DistinctLemmas.Absent.distinct_none, DistinctLemmas.Additions.{distinct_adds, distinct_append}}
@@ -26,6 +26,12 @@ module _ {T : Type 0} (eq : T → T → Bool) (o : IsEquivalence eq) where
       by true one two = (one.0, one.1, omega (arith, one.2))
       by false one two = (x ∷ two.0, two.1 ∙ append_assoc s (x ∷ []) two.0, omega (arith, two.2))
 
+  -- After additions the list has an element.
+  added_some : (s xs : List T) → 0 < length xs → 0 < length (adds eq s xs)
+  added_some [] [] h = absurd (omega (arith, h))
+  added_some [] (x ∷ xs) h = let more = appended (x ∷ []) xs in omega (arith, ap length more.1 ∙ length-append (x ∷ []) more.0)
+  added_some (y ∷ s) xs h = let more = appended (y ∷ s) xs in omega (arith, ap length more.1 ∙ length-append (y ∷ s) more.0)
+
   pub adds_items : (s xs r : List T) → r ≡ adds eq s xs → AddsItems eq s xs r
   adds_items s xs r e =
       let more = appended s xs in
@@ -34,6 +40,7 @@ module _ {T : Type 0} (eq : T → T → Bool) (o : IsEquivalence eq) where
         elements = e;
         members = λ q. ap (λ l. is_member eq l q) e ∙ is_member_adds eq o s xs q;
         len = (omega (arith, long), omega (arith, long, more.2));
+        not_empty = λ h. subst (λ l. 0 < length l) (sym e) (added_some s xs h);
         indices = indices_appended s r more.0 (e ∙ more.1);
         as_given = λ d. e ∙ adds_apart eq o s xs d;
       }

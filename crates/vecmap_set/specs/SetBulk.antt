@@ -1,6 +1,6 @@
 -- What the calls that add or copy many elements at once leave. `eq` is the `==` of the elements. In the examples, `1x` and
 -- `1y` are elements that `eq` calls equal, and are not the same.
-use Rattle.std.specs.Prelude.{◌≡◌, ◌+◌, ◌++◌, ◌≤◌, ◌||◌, Bool, Contains, IsTrue, List, OnErr, Option, Result, [], length, map}
+use Rattle.std.specs.Prelude.{◌≡◌, ◌+◌, ◌++◌, ◌<◌, ◌≤◌, ◌||◌, Bool, Contains, IsTrue, List, OnErr, Option, Result, [], length, map}
 use Rattle.std.specs.{Iterator.Count, List.IsDistinct, Set.is_member}
 use Rattle.vecmap_base.specs.{Bulk.{HasRoomForAll, StopsAt}, Clones.AreClones, Equality.has_same_items, Items.{adds, both}}
 use Rattle.vecmap_set.specs.{Contents.{Contents, HasRoom, Refuses}, Indices.KeepsMatchIndices}
@@ -21,6 +21,7 @@ module _ {T : Type 0} (eq : T → T → Bool) where
     -- Which elements are present, how many there are, and where the old ones are.
     pub members : (q : T) → is_member eq r q ≡ (is_member eq s q || is_member eq xs q)
     pub len : (length s ≤ length r) × (length r ≤ length s + length xs)
+    pub not_empty : 0 < length xs → 0 < length r
     pub indices : KeepsMatchIndices s r
     -- If no two elements are equal, all are appended.
     pub as_given : IsDistinct eq (s ++ xs) → r ≡ s ++ xs
