@@ -1,8 +1,8 @@
 -- Iterators that are seen as the list of what they have left: what a run of them gives.
-use Rattle.std.proofs.{Common.{◌≡◌, List, [], ◌∷◌, Ok, ap, ◌∙◌, length, map, map-id, refl, sym}, lemmas.Iterator.Adapters.fact_from_extend}
-use Rattle.std.proofs.{iter.runs.Sources.{as_is, as_is_back, from_back, from_front}, lemmas.Iterator.Consumers.YieldsList-from_rest}
+use Rattle.std.proofs.Common.{List, [], ◌∷◌, ap, ◌∙◌, length, map}
+use Rattle.std.proofs.iter.runs.Sources.{as_is, as_is_back, from_back, from_front}
 use Rattle.std.proofs.lemmas.List.{map_push}
-use Rattle.std.specs.{List.AllZip, Map.values_of, Iterator.Drains, Iterator.Runs.{EveryRun, ItemsMapTo, ItemsMapToReversed}}
+use Rattle.std.specs.{List.AllZip, Map.values_of, Iterator.Runs.{EveryRun, ItemsMapTo, ItemsMapToReversed}}
 use Rattle.std.specs.Map.Iter.{GivesInOrder, GivesInReverse, ShowsInOrder, ShowsInReverse, ShowsValuesInOrder, ShowsValuesInReverse, TakesFirst, TakesLast}
 use Rattle.vecmap_base.specs.Iterators.{TakesFirstOf, TakesLastOf}
 
@@ -45,7 +45,3 @@ module _ {A B X Y : Type 0} (R : A → B → Type 0) (S : X → Y → Type 0) (f
   all_zip_mapped [] (y ∷ ys) z = absurd z
   all_zip_mapped (x ∷ xs) [] z = absurd z
   all_zip_mapped (x ∷ xs) (y ∷ ys) z = (reads x y z.0, all_zip_mapped xs ys z.1)
-
--- An iterator that yields what it has left yields all of it.
-pub drained_all : {X : Type 0} (s xs : List X) → Drains (TakesFirst (λ (x : X). x)) s xs → xs ≡ s
-drained_all {X} s xs d = fact_from_extend {E = Unit {0}} {B = λ it. it ≡ s} {P = λ ys. ys ≡ xs} (λ (x : X). x) (Ok tt) (s, xs, refl, refl, d) (λ it b. YieldsList-from_rest s b) (λ ys e h. sym h ∙ sym (map-id ys) ∙ e)

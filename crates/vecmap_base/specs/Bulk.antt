@@ -1,6 +1,6 @@
 -- Calls that insert the items of an iterator: where they stop, what holds of each item, and when there is spare
 -- capacity for all items.
-use Rattle.std.specs.{Prelude.{◌≡◌, ℕ, ◌+◌, ◌/◌, List, Option, Some}, Iterator.{Count, Drains, YieldsThen, size}}
+use Rattle.std.specs.{Prelude.{ℕ, ◌+◌, ◌/◌, List, Option, Some}, Iterator.{Count, YieldsThen, size}}
 
 module _ {U T : Type 0} (becomes : U → T → Type 0) where
   -- Example: three items were taken, and at the third `R` holds of the first two and it.
@@ -8,11 +8,6 @@ module _ {U T : Type 0} (becomes : U → T → Type 0) where
   abbrev pub StopsAt : {A : Type 0} → (T → Option A → T → Type 0) → U → (List A → A → Type 0) → Type 0
   StopsAt {A} steps iter R = (it : T) × (items : List A) × (next : A) × (rest : T)
       × becomes iter it × YieldsThen steps it items (Some next) rest × R items next
-
-  -- Example: of a vector `[1, 2]` that is passed by value: `[1, 2]`.
-  -- Whatever `iter` becomes yields these items, and then nothing.
-  abbrev pub YieldsAll : {A : Type 0} → (T → Option A → T → Type 0) → U → List A → Type 0
-  YieldsAll {A} steps iter items = (it : T) (yielded : List A) → becomes iter it → Drains steps it yielded → yielded ≡ items
 
   -- Example: of three items, each is below 5.
   -- `P` holds of each item that `iter` may yield.

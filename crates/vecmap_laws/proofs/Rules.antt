@@ -3,7 +3,7 @@ use Rattle.std.specs.{Prelude.{◌≡◌, Bool, Err, List, Ok, OnErr, Result, []
 use Rattle.std.proofs.{Common.{subst, sym}, lemmas.Map.Steps.lookup-le-sum}
 use Rattle.vecmap_base.specs.Pairs.{HasDistinctKeys}
 use Rattle.vecmap_base.proofs.{DistinctLemmas.Absent.distinct_none, DistinctLemmas.Additions.{distinct_add, distinct_adds}}
-use Rattle.vecmap_base.proofs.{PairsLemmas.Keys.{keys_of_put, keys_of_puts}, WalkLemmas.drained_all}
+use Rattle.vecmap_base.proofs.PairsLemmas.Keys.{keys_of_put, keys_of_puts}
 use Rattle.vecmap_laws.proofs.{AlgebraLemmas.is_member_of_collected, AtNumbers.{absent_among_numbers, lookups_of_equal_numbers, put_put_of_numbers, restored_of_numbers}}
 use Rattle.vecmap_laws.proofs.AfterPuts.{index_of_congr, index_of_put, lookup_put_any, lookup_puts_distinct, lookup_without_any}
 use Rattle.vecmap_laws.proofs.{AtTexts.{lookups_of_equal_texts, put_put_of_texts}, DistinctParts.{distinct_keys_drop, distinct_keys_filter}}
@@ -92,9 +92,6 @@ pub ruleset clones_at_numbers = (same_clones, equal_to_itself_at_numbers)
 -- Which elements `^` makes of two sets that were collected.
 pub ruleset collected = (is_member_of_collected)
 
--- What `extend` by another map, passed by value, leaves.
-pub ruleset extended = (drained_all)
-
 -- A new key: a number above all keys, and a key that comes later in a list of distinct keys, or in that of another map.
 pub ruleset new_keys = (new_above, absent_before, absent_among, absent_among_numbers)
 
@@ -109,4 +106,4 @@ pub ruleset equal_at_texts = (lookups_of_equal_texts)
 
 -- The lists above in one, for a whole crate. Of `sorted` and `clones` it has only the lists at numbers, and of `puts` only
 -- those at numbers and at texts.
-pub ruleset common = (new_keys, each, equal_at_numbers, equal_at_texts, sorted_at_numbers, puts_at_numbers, puts_at_texts, clones_at_numbers, extended, lookups, members, lookup_put_any_query, collected, distinct, distinct_elements, elements, indices, keys, keys_in_loops, texts)
+pub ruleset common = (new_keys, each, equal_at_numbers, equal_at_texts, sorted_at_numbers, puts_at_numbers, puts_at_texts, clones_at_numbers, lookups, members, lookup_put_any_query, collected, distinct, distinct_elements, elements, indices, keys, keys_in_loops, texts)
