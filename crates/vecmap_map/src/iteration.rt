@@ -31,8 +31,9 @@ impl<K, V> VecMap<K, V> {
 
     /// Returns an iterator over the pairs in order, each as `(&K, &mut V)`.
     ///
-    /// Each value comes as it was at this call. Once the iterator is no longer used, the map has its old length and
-    /// capacity. No contract says which values were written. If a proof needs that, use [`VecMap::update_values`].
+    /// A proof loops over `map.as_mut_slice().iter_mut()` of [`MutableKeys`](crate::MutableKeys) instead: an invariant
+    /// then says which keys stay and what was written. Or it calls [`VecMap::update_values`]. Of this iterator it knows
+    /// that each value comes as it was at this call, and that the map keeps its length and capacity.
     ///
     /// # Examples
     ///
@@ -80,8 +81,9 @@ impl<K, V> VecMap<K, V> {
 
     /// Returns an iterator over mutable references to the values, in the order of their keys.
     ///
-    /// Each value comes as it was at this call. Once the iterator is no longer used, the map has its old length and
-    /// capacity. No contract says which values were written. If a proof needs that, use [`VecMap::update_values`].
+    /// A proof loops over `map.as_mut_slice().iter_mut()` of [`MutableKeys`](crate::MutableKeys) instead: an invariant
+    /// then says which keys stay and what was written. Or it calls [`VecMap::update_values`]. Of this iterator it knows
+    /// that each value comes as it was at this call, and that the map keeps its length and capacity.
     ///
     /// # Examples
     ///

@@ -99,8 +99,8 @@ pub trait MutableKeys: sealed::Sealed {
 
     /// Returns an iterator over the pairs in order, each as `(&mut K, &mut V)`; a write may create duplicate keys.
     ///
-    /// Each pair comes as it was at this call. Once the iterator is no longer used, the map has its old length and
-    /// capacity. No contract says what was written. If a proof needs that, write to [`MutableKeys::as_mut_slice`].
+    /// A proof loops over [`MutableKeys::as_mut_slice`] instead, as an invariant then says what was written. Of this
+    /// iterator it knows that each pair comes as it was at this call, and that the map keeps its length and capacity.
     ///
     /// # Examples
     ///
@@ -115,8 +115,8 @@ pub trait MutableKeys: sealed::Sealed {
 
     /// Returns an iterator over mutable references to the keys, in order; a write may create duplicate keys.
     ///
-    /// Each key comes as it was at this call. Once the iterator is no longer used, the map has its old length and
-    /// capacity. No contract says what was written. If a proof needs that, write to [`MutableKeys::as_mut_slice`].
+    /// A proof loops over [`MutableKeys::as_mut_slice`] instead, as an invariant then says what was written. Of this
+    /// iterator it knows that each key comes as it was at this call, and that the map keeps its length and capacity.
     ///
     /// # Examples
     ///
