@@ -2,7 +2,8 @@
 
 A doc comment has `<div class="contract">NUMBER</div>` in place of a block, where `site.py` puts the HTML. A link has
 the path of its target, such as `@vecmap_base::specs::Pairs::put`, which `site.py` makes relative. Above a clause stands
-what it says: the sentence of its definition with the arguments put in, or else the clause, read aloud.
+what it says, if the clause read aloud is not all: the sentence of its definition with the arguments put in, or, of the
+first clause of a call, that of its comment. Below a clause on a record are its fields, which are folded but for a few.
 """
 
 import html
@@ -11,8 +12,8 @@ import re
 import textwrap
 
 from rattle import NAME
-from laws_for import braced
-from reference.names import definition, names_in, path_of, rows
+from laws_for import braced, closing
+from reference.names import definition, file_of, names_in, path_of, rows
 
 # What begins a line: a clause with its label, a field, or a member. No name there is a link.
 OPENING = re.compile(r" *(?:(requires\*?|ensures\*?|ghost|pub) (?:(\w+)(?= \{| :|:| =))?)?")
@@ -23,6 +24,9 @@ TOKEN = re.compile(
 BOUND = re.compile(r"λ ([\w' ]+)\.(?= |$)|[({] ?([\w' ]+) :")
 GIVEN = re.compile(r"^([^=:→]*?) =(?= |$)|[{;] ?([\w']+) =(?= )|^ *(?:pub )?([\w' -]+) :", re.MULTILINE)
 CLAUSE = re.compile(r"^ *(?:requires|ensures)\*? (?:\w+ )?\{", re.MULTILINE)
+# A field of a record, or a comment above some. Then one that says what a whole value is.
+FIELD = re.compile(r"^ *(?:pub ([\w']+) : (.*)|(--.*))$", re.MULTILINE)
+WHOLE = re.compile(r"([\w']+)[\w.]* ≡ [^→]*")
 # The comment above the clauses that follow from others.
 FOLLOWS = "What follows for lookups, lengths and indices."
 OWN_WORDS = "_ Self self result where abbrev pub data record module".split()
@@ -64,16 +68,16 @@ def sentence(formula, about):
     name, *arguments = WORD.findall(formula)
     told, text = about(name)
     names = parameters(name, text) if told else []
-    is_phrase = re.match("`|that |What |[Tt]he same |[Ww]here |The capacity after ", told)
+    is_phrase = re.match("`|that |What |[Tt]he same\b|[Ww]here |The capacity after ", told)
     if not told or is_phrase or len(names) != len(arguments):
         return ""
-    letters = (it for it in re.findall("`([b-hj-z])`", told) if it not in names)
+    letters = (it for it in re.findall("`([b-z])`", told) if it not in names)
     given = {it if re.fullmatch(r"[\w']+", it) else next(letters, it): bare(of) for it, of in zip(names, arguments)}
     if query := re.fullmatch(r"(?:Q\.equivalent|has_text) ([\w.]+)", given.get("test", "")):
         told = told.replace("passes the test", f"matches `{query[1]}`")
     within = lambda it: re.sub(r"[a-z]\w*", lambda word: given.get(word[0], word[0]), it[0])
     put = lambda it: within(it) if it[0][0] == "`" else f"`{given[it[0]]}`" if it[0] in given else it[0]
-    said = re.sub(r"`[^`]*`|(?<![\w'])[b-hj-z](?![\w'])", put, told).rstrip(".")
+    said = re.sub(r"`[^`]*`|(?<![\w'])[b-z](?![\w'])", put, told).rstrip(".")
     lists = [it for it in arguments if re.fullmatch(r"[\w.]+\.(?:entries|elements)", it)]
     said += f" in `{lists[0]}`" if len(lists) == 1 and not {lists[0], ","} & {*re.split("(,)|`", said)} else ""
     unsaid = [it for it in map(bare, arguments) if re.search("[ (]", it) and "." not in it and it not in said]
@@ -107,19 +111,42 @@ def said(formula, about):
     return PLAIN.get(formula) or sentence(bare(formula.removeprefix("sem 𝓛 ")), about)
 
 
-class Block:
-    """A contract, or a definition with its own path: its HTML, the paths that it names, and its place on the site."""
+def inner(formula):
+    """Returns what a formula says without its premises, and of the value that a result has."""
+    if found := re.fullmatch(r"If\w+ \S+ (\(λ .*\))|On\w+ result (\(.*\))", formula):
+        return inner(re.sub(r"^λ \w+\. ", "", bare(found[1] or found[2])))
+    *premises, last = split(formula, "→")
+    return inner(last) if premises else formula
 
-    def __init__(self, path, line, title, text, given="", own=""):
-        self.path, self.title, self.own, self.where = path, title, own, f"{path}:{line}: {title}"
-        self.place, self.names, self.mark = "", set(), f'\n<div class="contract">{len(BLOCKS)}</div>\n'
-        self.leads, self.bound = names_in(path), bound_in(text, BOUND)
+
+def put_in(text, given):
+    """Returns a text with arguments in place of parameters. A variable that an argument names, too, gets a `'`."""
+    bound, named = bound_in(text, BOUND), {*NAME.findall(" ".join(given.values()))}
+    put = lambda it: it + "'" * (it in named) if it in bound else given.get(it, it)
+    return re.sub(r"(?<![\w.'])[A-Za-z_][\w']*", lambda it: put(it[0]), text)
+
+
+def whole(fields):
+    """Returns the lines of fields, and of records in fields, that say what a whole value is."""
+    return [it for is_whole, line, below in fields for it in whole(below) or [line] * is_whole]
+
+
+def details(fields):
+    """Returns the fields of a record, folded but for those that say what a whole value is, or for the first."""
+    first = next(((line, below) for _, line, below in fields if line[:2] != "--"), ("", []))
+    shown = whole(fields) or [line for _, line, _ in first[1][:1]] or [first[0]]
+    rest = "".join(f"<div>{line}</div>{details(below)}" for _, line, below in fields if line not in shown)
+    rest, lines = re.sub(' title="[^"]*"', "", rest), "\n".join(shown)  # Titles would make a page half as large again.
+    return f"<details><summary>{lines}</summary>{rest}</details>" if rest else f"<div>{lines}</div>" * bool(fields)
+
+
+class Names:
+    """The names and the signs of a text, in HTML. A name is a link to where the file that has the text leads it."""
+
+    def __init__(self, path, where, text, given="", leads=(), own=""):
+        self.where, self.own, self.leads, self.named = where, own, {**names_in(path), **dict(leads)}, set()
+        self.bound = bound_in(text, BOUND)
         self.known = {*NAME.findall(given), *self.bound, *bound_in(text, GIVEN), *OWN_WORDS}
-        first, _, folded = text.partition(f"// {FOLLOWS}\n")
-        self.html = self.write(first)
-        if folded:
-            self.html += f'<details class="follows"><summary>{FOLLOWS}</summary>{self.write(folded)}</details>'
-        BLOCKS.append(self)
 
     def target(self, name):
         """Returns where a name leads. One that the text binds leads nowhere."""
@@ -138,9 +165,9 @@ class Block:
             FAULTS.append(f"{self.where}: `{whole}` leads nowhere")
         if not path or path == self.own:
             return whole
-        self.names.add(path)
+        self.named.add(path)
         told = definition(path)[0] or rows().get(path.removeprefix("contracts#"), "")
-        return f'<a href="@{path}" title="{html.escape(told)}">{word}</a>{whole[len(word):]}'
+        return f'<a href="@{path}" title="{html.escape(told)}">{word}</a>{whole[len(word) :]}'
 
     def token(self, found):
         """Returns a name, a sign or a comment in HTML."""
@@ -161,13 +188,50 @@ class Block:
         target = f' href="@contracts#{label}" title="{meaning}"' if meaning else ""
         return f'{opening[0][: -len(label)]}<a class="label" id="@{place}"{target}>{label}</a>{rest}'
 
-    def write(self, text):
-        """Returns a text in HTML. Above a clause is what the sentence of its definition says of it."""
+    def fields(self, formula, above=""):
+        """Returns of each field of a record if it says what a whole value is, its line, and its own fields."""
+        name, *arguments = WORD.findall(inner(formula)) or [""]
+        path, found = self.target(name), []
+        text, file = definition(path)[1], file_of(path)
+        _, is_record, own = text.partition(f"pub record {name} ")
+        given = dict(zip(parameters(name, text), arguments)) if is_record else {}
+        if is_record and len(given) == len(arguments):
+            leads = {it: self.leads[it] for it in NAME.findall(formula) if it in self.leads}
+            names = Names(file, self.where, text, " ".join([formula, *self.known]), leads)
+            for label, told, comment in FIELD.findall(own.partition(" where\n")[2]):
+                line = comment or f"{above}{label} : {TOKEN.sub(names.token, put_in(told, given))}"
+                is_whole = bool(match := WHOLE.fullmatch(told)) and match[1] in given
+                below = names.fields(put_in(told, given), f"{above}{label}.") if told else []
+                found.append((is_whole, line, below))
+        return found
+
+
+class Block:
+    """A contract, or a definition with its own path: its HTML, the paths that it names, and its place on the site."""
+
+    def __init__(self, path, line, title, text, given="", own="", told=""):
+        self.path, self.title, self.own, self.where = path, title, own, f"{path}:{line}: {title}"
+        self.place, self.mark = "", f'\n<div class="contract">{len(BLOCKS)}</div>\n'
+        names, (first, _, folded) = Names(path, self.where, text, given, (), own), text.partition(f"// {FOLLOWS}\n")
+        self.names, self.html = names.named, self.write(first, names, told)
+        if folded:
+            made = self.write(folded, names)
+            self.html += f'<details class="follows"><summary>{FOLLOWS}</summary>{made}</details>'
+        BLOCKS.append(self)
+
+    @staticmethod
+    def write(text, names, told=""):
+        """Returns a text in HTML. Above a clause is what it says, and below it are the fields of its record."""
         text = textwrap.dedent(text).strip("\n")
-        made = [self.line(it) for it in text.splitlines()]
+        made = [names.line(it) for it in text.splitlines()]
         for clause in CLAUSE.finditer(text):
-            words = said(braced(text, clause.end()), lambda it: definition(self.target(it)))
+            formula, is_first = braced(text, clause.end()), "ensures" not in text[: clause.start()]
+            words, aloud = (said(formula, it) for it in (lambda it: definition(names.target(it)), lambda _: ("", "")))
+            words = "" if words == aloud else words
+            words = words or told * (is_first and clause[0].strip().startswith("ensures"))
             words = re.sub("`(.*?)`", r"<code>\1</code>", html.escape(words[:1].upper() + words[1:], quote=False))
-            number = text.count("\n", 0, clause.start())
-            made[number] = f'<span class="said">{words}.</span>\n' * bool(words) + made[number]
+            first, last = (text.count("\n", 0, it) for it in (clause.start(), closing(text, clause.end())))
+            made[first] = f'<span class="said">{words.rstrip(".")}.</span>\n' * bool(words) + made[first]
+            if below := details(names.fields(formula)):
+                made[last] += f'</pre><div class="fields">{below}</div><pre>'
         return f"<pre>{chr(10).join(made)}</pre>" * bool(text)

@@ -8,6 +8,7 @@ import os
 import re
 
 from rattle import LAWS, LIBRARIES, closing, crate_of, definitions, items, opening, owner_of, read, table_rows
+import laws_for
 from reference.contracts import Block
 from reference.names import OF_KIT, module_of
 
@@ -50,7 +51,9 @@ def contract_of(item, text, given):
     if item.kind != "impl":
         home = item.path.split("/")[3].removesuffix(".rt") if crate_of(item.path) == LAWS else ""
         title = "::".join(filter(None, [home, owner_of(item), item.name]))
-    return doc("\n# Contract\n" * bool(text.strip()) + Block(item.path, item.line, title, text, given).mark)
+    told = re.sub(r"\[(`.*?`)\]", r"\1", laws_for.about(item)) if item.kind == "fn" and item.is_public else ""
+    block = Block(item.path, item.line, title, text, given, told=told)
+    return doc("\n# Contract\n" * bool(text.strip()) + block.mark)
 
 
 def function_form(item):

@@ -105,10 +105,14 @@ def look_up(place, name):
     return next((look_up(it, its) for alias, it, its in imports(path) if alias == name), None)
 
 
+def file_of(path):
+    """Returns the file that has the definition with a path, which need not be there."""
+    return OF_KIT[path][0] if path in OF_KIT else f"crates/{path.rpartition('::')[0].replace('::', '/')}.antt"
+
+
 @functools.cache
 def definition(path):
     """Returns the sentence on a definition, and its text, or nothing twice."""
-    home, _, name = path.rpartition("::")
-    found = [it for it in definitions(f"crates/{home.replace('::', '/')}.antt") if it.name == name]
-    found += OF_KIT.get(path, ())[1:]
+    own = [it for it in definitions(file_of(path)) if it.name == path.rpartition("::")[2]]
+    found = [*OF_KIT.get(path, ())[1:], *own]
     return ("".join(found[0].comment[-1:]), found[0].text) if found else ("", "")
