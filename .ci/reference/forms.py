@@ -17,8 +17,13 @@ GHOST = re.compile(r"(?:^ +//(?!/).*\n)*^ +ghost (?!use)\w+(?: = |: )\{", re.MUL
 CONTRACT = re.compile(r"^(?=(?: *//.*\n|\n)* *(?:requires|ensures)\b)", re.MULTILINE)
 MODULES = re.compile(r"(?:^(?:pub )?mod \w+;\n)+", re.MULTILINE)
 PASSED_ON = re.compile(r"^pub use Rattle\.(\w+)\.specs\.(\w+)(?: as (\w+))?$", re.MULTILINE)
-# Words and signs by which a search finds calls, too.
+# Words and signs by which a search finds calls and guides, too.
 ALSO = {"VecMap::new": "HashMap IndexMap", "VecSet::new": "HashSet IndexSet", "VecSet::union": "|"}
+ALSO |= dict.fromkeys(("VecMap::iter", "VecSet::iter"), "rev backwards loop for")
+ALSO |= dict.fromkeys(("VecMap::as_slice", "VecSet::as_slice"), "compare == eq order")
+ALSO |= dict.fromkeys(("VecMap::drain", "VecSet::drain"), "leak forget")
+ALSO |= {"calling": "error loop query", "proving": "loop closure callable", "proved": "panic leak trusted"}
+ALSO |= {"differences": "serde no_std panic Default ==", "porting": "IndexMap rev", "questions": "after"}
 # The definitions of std, by their paths, as constants.
 CONSTANTS = {}
 
@@ -33,16 +38,21 @@ def doc(text):
     return f'#[doc = "{words}"] ' if text else ""
 
 
+def found_by(name, *words):
+    """Returns attributes by which a search finds a call or a guide by some words, too."""
+    return "".join(f'#[doc(alias = "{it}")] ' for it in sorted({*words, *ALSO.get(name, "").split()}))
+
+
 def aliases(item, contract):
     """Returns attributes by which a search finds a call of a library: words of its purposes, and its goals."""
     if not (item.is_public and crate_of(item.path) in LIBRARIES):
         return ""
     which = table_rows(read("crates/vecmap/CALLING.md").partition("\n## Which call\n")[2].partition("\n## ")[0])
     found = {word for told, calls, *_ in which if f"`{item.name}`" in calls for word in re.findall(r"[a-z]{5,}", told)}
-    found |= {*ALSO.get(f"{owner_of(item)}::{item.name}", "").split()}
     for label in re.findall(r"^ *requires (?:(\w+) )?\{", contract, re.MULTILINE):
         found |= {"precondition", f"{item.name}-requires", f"{item.name}-requires" + f"-clause-{label}" * bool(label)}
-    return "".join(f'#[doc(alias = "{it}")] ' for it in sorted(found - {item.name}))
+        found |= {label} - {""}
+    return found_by(f"{owner_of(item)}::{item.name}", *found - {item.name})
 
 
 def contract_of(item, text, given):

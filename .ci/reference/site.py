@@ -10,7 +10,7 @@ import urllib.parse
 
 from rattle import DEFINED, dependencies, files, kit, read, run, sources, specs, write
 from reference.contracts import BLOCKS, FAULTS
-from reference.forms import definition_form, definitions_of_std, doc, rust_of
+from reference.forms import ALSO, definition_form, definitions_of_std, doc, found_by, rust_of
 from reference.names import rows
 
 HERE = os.path.dirname(os.path.abspath(__file__))
@@ -51,7 +51,8 @@ def own_pages():
     guides = files("crates/vecmap/*.md", "docs/[DP]*.md", "CHANGELOG.md")
     pages |= {os.path.basename(it)[:-3].lower(): read(it).removeprefix("# ") for it in guides}
     plain = lambda text: re.sub(r"\[([^\]]*)\]\([^)]*\)", r"\1", text).replace("```rust", "```text")
-    return " ".join(f"{doc(plain(text))}#[allow(rustdoc::all)] pub mod {name} {{}}" for name, text in pages.items())
+    about = {name: f"{found_by(name)}{doc(plain(text))}#[allow(rustdoc::all)]" for name, text in pages.items()}
+    return " ".join(f"{it} pub mod {name} {{}}" for name, it in about.items())
 
 
 def write_forms(work):
@@ -166,11 +167,15 @@ def make(work, out):
         write(page, CONSTANT.sub("Definition", read(page)).replace('type","constant"', 'type","definition"'))
     for page in files(f"{out}/static.files/search-*.js"):  # Names in their own case first; of equal ones those of maps.
         text = read(page).replace("if(isMixedCase){a=", "{a=")
-        sides = "".join(f'{it}=Number({it}{it}i.parent?.name!=="VecMap");' for it in "ab")
+        text = text.replace("foundElems===0?(async function*(){})()", "foundElems===0?innerRunNameQuery(currentCrate)")
+        rank = "Number(!!{0}i.traitParent)-2*['VecSet','VecMap'].indexOf({0}i.parent?.name)"
+        sides = "".join(f"{it}={rank.format(it * 2)};" for it in "ab")
         write(page, text.replace("a=Number(aai.ty);", f"{sides}if(a!==b){{return a-b;}}a=Number(aai.ty);"))
     # Nobody else can name the trait `Predicate`.
     lost = [f"{it.where} is not on the site" for it in BLOCKS if not it.place and not it.title.startswith("Predicate")]
-    return [*FAULTS, *lost, *link_faults(texts, out), *picture_faults(texts["vecmap/struct.VecMap.html"])]
+    words = " ".join(f"'{it}'" for some in ALSO.values() for it in some.split())
+    asked = run(f"node '{HERE}/search.js' {out} {words}").stdout.splitlines() if shutil.which("node") else []
+    return [*FAULTS, *lost, *asked, *link_faults(texts, out), *picture_faults(texts["vecmap/struct.VecMap.html"])]
 
 
 def check(folder):
