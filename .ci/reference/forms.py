@@ -7,7 +7,8 @@ A form has as many lines as its source, so that the numbers of lines stay. Contr
 import os
 import re
 
-from rattle import LAWS, LIBRARIES, closing, crate_of, definitions, items, opening, owner_of, read, table_rows
+from rattle import LAWS, LIBRARIES, closing, crate_of, definitions, functions, items, opening, owner_of, read, sources
+from rattle import table_rows
 import laws_for
 from reference.contracts import Block
 from reference.names import OF_KIT, module_of
@@ -86,8 +87,26 @@ def block_form(item):
     return about + (contract_of(item, ghosts, text) if ghosts else "") + text
 
 
+def with_topics(path):
+    """Returns the text of a source. In a list of calls by topic at its head, calls, types and files are links."""
+    text, kind = read(path), "".join(re.findall("^crates/vecmap/src/(map|set).rt$", path))
+    head = re.match("(?://!.*\n)*", text)[0] if kind else ""
+    crate, own = f"vecmap_{kind}", f"Vec{kind.title()}"
+    owners = {it.name: owner_of(it) for it in functions(*sources(crate)) if it.is_call()} if kind else {}
+    owners |= {it: own for it in owners if re.search(rf"pub fn {it}\b", "".join(map(read, sources(crate))))}
+
+    def link(found):
+        if found[2]:
+            home = next(it for it in (crate, "vecmap_base") if os.path.exists(f"crates/{it}/src/{found[2]}"))
+            return f"[{found[0]}](../../src/{home}/{found[2]}.html)"
+        path = f"({owners[found[1]]}::{found[1]})" if found[1] in owners else ""
+        return f"[{found[0]}]{path}" if path or found[1] in text.removeprefix(head) else found[0]
+
+    return re.sub(r"`(?:(\w+)|(\S+\.rt))`", link, head) + text.removeprefix(head)
+
+
 def rust_of(path):
-    crate, lines = crate_of(path), read(path).split("\n")
+    crate, lines = crate_of(path), with_topics(path).split("\n")
     for item in (it for it in items(path) if it.kind in ("fn", "impl", "trait", "struct")):
         made = (function_form if item.kind == "fn" else block_form)(item).split("\n")
         lines[item.line - 1 : item.line - 1 + len(made)] = made

@@ -1,5 +1,6 @@
 """Makes the site by rustdoc from the Rust forms, writes contracts and true sources to it, and checks it."""
 
+import functools
 import hashlib
 import html
 import os
@@ -21,6 +22,8 @@ FLAGS = "-Ldependency=. --edition=2021 -Zunstable-options '-Zcrate-attr=feature(
 DENIED = "-Dmissing_docs -Drustdoc::broken_intra_doc_links -Drustdoc::invalid_html_tags"
 # The place of a call or an impl on a page, or of a contract.
 PLACE = re.compile(r' id="((?:ty)?method\.[^"]+|impl-[^"]+)"|<div class="contract">(\d+)</div>')
+# Where the files that guides lead to are on the site, if they have no page of their own.
+COPIED = {}
 # What rustdoc calls the definitions.
 CONSTANT = re.compile(r'(?<=[>"])Constant(?=s?[ <"])')
 
@@ -40,6 +43,31 @@ def build(crate, work, out):
             raise SystemExit(f"{ran.stdout}reference: {crate} has the faults above")
 
 
+@functools.cache
+def guides():
+    """Returns the pages that are guides on the site, each with the name of its module."""
+    return {it: os.path.basename(it)[:-3].lower() for it in files("crates/vecmap/*.md", "docs/*.md", "CHANGELOG.md")}
+
+
+def linked(page):
+    """Returns the text of a guide, in which links lead to places on the site. Files elsewhere are copied, as texts."""
+
+    def link(found):
+        path, sign, anchor = found[2].partition("#")
+        path = os.path.relpath(os.path.join(os.path.dirname(page), path)) if path else page
+        form, place = path.removeprefix("crates/").replace("/src/", "/"), ""
+        if path in guides():
+            place = f"vecmap/{guides()[path]}/index.html{sign}{anchor}"
+        elif form.split("/")[0] in DEFINED and "/proofs/" not in form:
+            place = f"src/{form}.html" if "/" in form else f"{form}/index.html"
+        elif os.path.isfile(path):
+            COPIED[path] = place = f"files/{path.removesuffix('.txt')}.txt"
+        return f"[{found[1]}](../../{place})" if place else found[1]
+
+    text = re.sub(r"!\[[^\]]*\]\([^)]*\)\n*", "", read(page)).removeprefix("# ")
+    return re.sub(r"\[([^\]]*)\]\((?!\w+:)([^)\s]+)\)", link, text).replace("```rust", "```text")
+
+
 def own_pages():
     """Returns the modules whose pages are texts: how to read a contract, the guides, and what scripts list."""
     place = lambda row: re.sub(r"`(\.?\w+)`", r'<span id="\1"></span>\g<0>', row[0])
@@ -48,10 +76,8 @@ def own_pages():
         "mutants": f"Wrong bodies, and what rejects them.\n\n{run('.ci/edits list').stdout}",
         "questions": f"What a caller asks after a call, and what is proved.\n\n{run('.ci/questions list').stdout}",
     }
-    guides = files("crates/vecmap/*.md", "docs/[DP]*.md", "CHANGELOG.md")
-    pages |= {os.path.basename(it)[:-3].lower(): read(it).removeprefix("# ") for it in guides}
-    plain = lambda text: re.sub(r"\[([^\]]*)\]\([^)]*\)", r"\1", text).replace("```rust", "```text")
-    about = {name: f"{found_by(name)}{doc(plain(text))}#[allow(rustdoc::all)]" for name, text in pages.items()}
+    pages |= {name: linked(path) for path, name in guides().items()}
+    about = {name: f"{found_by(name)}{doc(text)}#[allow(rustdoc::all)]" for name, text in pages.items()}
     return " ".join(f"{it} pub mod {name} {{}}" for name, it in about.items())
 
 
@@ -131,7 +157,7 @@ class Pages:
 def link_faults(texts, out):
     places = {page: {html.unescape(it) for it in re.findall(r' id="?([^" >]+)', text)} for page, text in texts.items()}
     for page, text in texts.items():
-        for target in dict.fromkeys(re.findall(r' href="?(?!\w+:(?!:))([^" >]+)', text)):
+        for target in dict.fromkeys(re.findall(r' (?:href|src)="?(?!\w+:(?!:))([^" >]+)', text)):
             path, _, anchor = html.unescape(target).partition("#")
             file = os.path.normpath(os.path.join(os.path.dirname(page), path.split("?")[0])) if path else page
             names = {anchor, urllib.parse.unquote(anchor), *re.findall(r"^\d+(?=-\d+$)", anchor)}
@@ -158,6 +184,8 @@ def make(work, out):
             shutil.rmtree(f"{out}/search.index")
             shutil.move(index, f"{out}/search.index")
     write(f"{out}/index.html", '<meta http-equiv="refresh" content="0; url=vecmap/index.html">')
+    for path, place in COPIED.items():
+        write(f"{out}/{place}", read(path))
     pages = Pages(out)
     texts = {page: pages.fill(page) for page in pages.texts}
     texts |= {f"src/{form}.html": true_source(texts[f"src/{form}.html"], path) for form, path in forms.items()}
