@@ -1,13 +1,9 @@
 -- What a query finds that matches exactly the keys that are equal to one of its matches.
 use Rattle.std.specs.{declared.alloc.Global.Global, Cmp.{IsEquivalence, on_equiv, Lexicographic.nat_list_eq_equiv}, Map.IsKeyTest}
 use Rattle.std.proofs.Common.{◌≡◌, ℕ, Bool, false, List, None, Some, String, IsTrue, bytes_eq, if◌then◌else◌, string_bytes, string_eq, ap, refl, ◌∙◌}
-use Rattle.vecmap_base.{specs.Pairs.{HasDistinctKeys, has_text, lookup, lookup_by, put, without_by}, proofs.PairsLemmas.{Lookups.lookup_by_put, Updates.updates_of_without}}
-use Rattle.vecmap_laws.proofs.ItemQueries.{tells_as}
+use Rattle.vecmap_base.{specs.Pairs.{HasDistinctKeys, has_text, lookup_by, put, without_by}, proofs.PairsLemmas.{Lookups.lookup_by_put, Updates.updates_of_without}}
 
 module _ {K V : Type 0} (eq : K → K → Bool) (o : IsEquivalence eq) (test : K → Bool) (respects : IsKeyTest eq test) where
-  pub lookup_by_query : (l : List (K × V)) (k : K) → IsTrue (test k) → lookup_by test l ≡ lookup eq l k
-  lookup_by_query l k h = ap (λ f. lookup_by f l) (tells_as eq o test respects k h)
-
   -- After the removal of its match from a list of distinct keys, the query matches nothing.
   pub lookup_without_query : (l : List (K × V)) → HasDistinctKeys eq l → lookup_by test (without_by test l) ≡ None
   lookup_without_query l d = (updates_of_without eq o test respects l (without_by test l) refl d).own

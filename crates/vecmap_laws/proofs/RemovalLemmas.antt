@@ -4,9 +4,9 @@ use Rattle.std.proofs.Common.{◌≡◌, ◌-◌, ℕ, Bool, true, false, ◌||�
 use Rattle.std.proofs.lemmas.{Map.Steps.list_any_congr, Option.get_or_from_slice_get, Option.slice_get_within}
 use Rattle.std.proofs.lemmas.List.Sorted.{IsPermutation-remove, IsPermutation-swap_remove, length_permutation, list_any-IsPermutation}
 use Rattle.std.specs.{Cmp.IsEquivalence, List.IsDistinct, List.list_any, List.swap_remove, List.Sorted.IsPermutation, Map.IsKeyTest, Option.option_map_or, Set.is_member}
-use Rattle.vecmap_base.proofs.{IndexLemmas.list_any_position, DistinctLemmas.Order.distinct_rearranged, PairsLemmas.Order.pair_of_value}
-use Rattle.vecmap_laws.proofs.{ItemQueries.tells_as, Queries.lookup_by_query, HeadLemmas.head_not_in_rest}
-use Rattle.vecmap_base.specs.{Items.swap_without, Pairs.{lookup, lookup_by}}
+use Rattle.vecmap_base.proofs.{IndexLemmas.list_any_position, DistinctLemmas.Order.distinct_rearranged}
+use Rattle.vecmap_laws.proofs.{ItemQueries.tells_as, HeadLemmas.head_not_in_rest}
+use Rattle.vecmap_base.specs.Items.{swap_without}
 use Rattle.vecmap_set.proofs.IndexLemmas.{found_item_at}
 
 -- The item at the first index that passes.
@@ -36,11 +36,6 @@ module _ {T : Type 0} (eq : T → T → Bool) (o : IsEquivalence eq) where
       by : (b : Bool) → eq x y ≡ b → list_any (eq y) s ≡ (eq y x || list_any (eq y) rest) → is_member eq rest y ≡ (is_member eq s y && not b)
       by true e all = sym (list_any_congr o x y rest e) ∙ head_not_in_rest eq x rest (distinct_rearranged eq o s (x ∷ rest) moved d) ∙ none (is_member eq s y)
       by false e all = sym (ap (λ b. b || list_any (eq y) rest) (o.symm y x ∙ e)) ∙ sym all ∙ last (is_member eq s y)
-
-module _ {K V : Type 0} (eq : K → K → Bool) (o : IsEquivalence eq) where
-  -- What a query finds has the same `f` in two lists, if what each key that it matches finds has.
-  pub query_finds_same : {X : Type 0} (f : Option V → X) (test : K → Bool) → IsKeyTest eq test → (l m : List (K × V)) → ((q : K) → IsTrue (test q) → f (lookup eq m q) ≡ f (lookup eq l q)) → f (lookup_by test m) ≡ f (lookup_by test l)
-  query_finds_same f test respects l m alike = grind (arith, lookup_by_query, pair_of_value)
 
 -- A removal by index, which leaves all other items.
 module _ {X : Type 0} (takes : List X → ℕ → List X) (leaves : (xs : List X) (i : ℕ) (x : X) → slice_get xs i ≡ Some x → IsPermutation xs (x ∷ takes xs i)) where

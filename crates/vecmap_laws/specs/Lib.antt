@@ -1,6 +1,5 @@
 pub mod Agreement
 pub mod Algebra
-pub mod Combining
 pub mod FirstValue
 pub mod Pulls
 pub mod Removals
