@@ -28,6 +28,10 @@ FORM = r"((?:^ *-- .*\n)*)^( *)(?:%s)(?!mod |use )([\w']+) .*\n(?:.*\S.*(?:\n|\Z
 PUBLIC = re.compile(FORM % r"abbrev pub |(?:unfoldable )?pub (?:record |data |ruleset )?", re.MULTILINE)
 ANY = re.compile(FORM % r"(?:(?:abbrev|unfoldable|pub|record|data) )*(?!(?:abbrev|module|pub|where) )", re.MULTILINE)
 NAME = re.compile(r"[A-Za-z_][\w']*")
+# An import or an export: the words before it, and its paths.
+USE = re.compile(r"^ *((?:pub |ghost )?(?:use|mod) )((?:[^;{\n]|\{(?:[^{}]|\{[^{}]*\})*\})*);?$", re.MULTILINE)
+# A part of an import: a path, or names in braces behind one.
+PARTS = re.compile(r"([^\s,{}](?:[^,{}\n]*))(?:\{((?:[^{}]|\{[^{}]*\})*)\})?")
 # The head of an `impl`: its parameters, which may have bounds with parameters, the trait if there is one, and the type.
 IMPL = re.compile(r"impl(?:<(?:->|[^<>]|<(?:->|[^<>]|<[^<>]*>)*>)*>)? (?:(.*) for )?(.*?)(?: where.*)?")
 # A definition: its line, its name, the lines of its comment, and its text, which begins with the modules that it is in.
@@ -135,6 +139,17 @@ def definitions(path, also_private=False):
         whole = "\n".join([*heads, text[start : found.end()].rstrip("\n")])
         made.append(Definition(text.count("\n", 0, start), name, lines, whole))
     return made
+
+
+def paths(text):
+    """Yields the paths that an import has, also in braces."""
+    for place, group in PARTS.findall(text):
+        yield from (place + it for it in paths(group)) if group else [place]
+
+
+def imports(path):
+    """Yields what a file imports or exports: the words before it, and its path."""
+    yield from ((words, it) for words, text in USE.findall(read(path)) for it in paths(text))
 
 
 def crate_of(path):
