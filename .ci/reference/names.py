@@ -28,7 +28,7 @@ def rows(of_labels=False):
     for first, told, *_ in table_rows(labels if of_labels else signs)[2:]:
         names = re.findall(r"`([^`]+)`", first.replace("\\", ""))
         each = re.split(r"; (?![^(]*\))", told)
-        made |= dict(zip(names, each if len(each) == len(names) else [told] * len(names)))
+        made |= dict(zip(names, each * len(names) if len(each) == 1 else each, strict=True))
     return made
 
 
