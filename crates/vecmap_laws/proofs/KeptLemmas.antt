@@ -1,6 +1,6 @@
 -- What a closure leaves of a list if each call returns the result of a test, or writes the item in the same way.
-use Rattle.std.{specs.Prelude.{◌≡◌, Bool, List, [], ◌∷◌, filter, if◌then◌else◌, refl}, proofs.Common.{subst, ◌∙◌}}
-use Rattle.vecmap_base.specs.Kept.{Kept, TestsItems}
+use Rattle.std.{specs.Prelude.{◌≡◌, Bool, List, [], ◌∷◌, filter, if◌then◌else◌, refl}, proofs.Common.◌∙◌}
+use Rattle.vecmap_base.specs.Kept.{Kept}
 
 module _ {F X : Type 0} (R : F → X → Bool → X → F → Type 0) where
   -- `Holds` is an invariant of the closure's states: a call in a state where it holds leaves a state where it holds.
@@ -12,11 +12,6 @@ module _ {F X : Type 0} (R : F → X → Bool → X → F → Type 0) where
         let call = told f x k.0 k.1 k.2 holds k.4 in
         let rest = kept_while test told k.2 xs k.3 g call.2 k.5 in
         k.6 ∙ (λ i. if call.0 i then call.1 i ∷ rest i else rest i)
-
-  -- A closure that stays in its state, with the test of that state.
-  pub kept_in_state : (f g : F) (xs m : List X) (test : X → Bool) → TestsItems R f test → Kept R f xs m g → m ≡ filter test xs
-  kept_in_state f g xs m test told k =
-      kept_while (λ z. z ≡ f) test (λ z x b y w same call. let r = told x b y w (subst (λ v. R v x b y w) same call) in (r.0, r.1, r.2)) f xs m g refl k
 
   -- A closure whose state changes, while its test stays the same.
   pub kept_by_states : (f g : F) (xs m : List X) (test : F → X → Bool) → ((z : F) (x : X) (b : Bool) (y : X) (w : F) → R z x b y w → (b ≡ test z x) × (y ≡ x) × ((u : X) → test w u ≡ test z u)) → Kept R f xs m g → m ≡ filter (test f) xs

@@ -3,7 +3,7 @@ use Rattle.std.specs.{Cmp.IsEquivalence, List.IsDistinct, List.list_any, List.So
 use Rattle.std.proofs.Common.{◌≡◌, ◌∙◌, ◌&&◌, ◌-◌, ◌++◌, ◌<◌, ◌≤◌, ◌||◌, ℕ, Bool, IsTrue, List, None, Option, Some, IfSome, ◌∷◌, ap, drop, inl, inr, is_some, length, length-append, remove, slice_get, sym, subst, take}
 use Rattle.std.proofs.{lemmas.List.{length-take, length-take-le, take-append-drop}, lemmas.List.Sorted.list_any-IsPermutation, lemmas.Map.Keys.IsDistinct-tail}
 use Rattle.vecmap_base.specs.{Items.{stored_first, swap_without, swap_without_first, without_first}, Kept.Kept}
-use Rattle.vecmap_base.proofs.{DistinctLemmas.{Order.distinct_rearranged, Removals.{distinct_drop, distinct_take}}, PairsLemmas.{Lookups.compares_with, Retained.length_kept}}
+use Rattle.vecmap_base.proofs.{DistinctLemmas.{Order.distinct_rearranged, Removals.{distinct_drop, distinct_take}}, PairsLemmas.{Lookups.compares_with, Retained.{filter_kept, length_kept}}}
 use Rattle.vecmap_base.proofs.IndexLemmas.{list_any_position, list_any_stored, position_before}
 use Rattle.vecmap_base.proofs.ItemsLemmas.{Additions.adds_apart, Changes.{matches_of_front, matches_of_parts, members_popped}, Filtered.any_filtered, Members.{members_of_first, members_removed}}
 use Rattle.vecmap_base.proofs.TakenLemmas.{TakesAt, TakesFirst, first_by_shift, first_by_swap, last_read, last_taken, len_of_first, len_popped, one_less, taken_by_shift, taken_by_swap}
@@ -28,6 +28,7 @@ module _ {T : Type 0} where
   pub retains_items : {F : Type 0} (R : F → T → Bool → T → F → Type 0) → ((f : F) (x : T) (b : Bool) (y : T) (g : F) → R f x b y g → y ≡ x) → (f : F) (s r : List T) → ((g : F) × Kept R f s r g) → RetainsItems R f s r
   retains_items R same f s r calls = record {
     calls = calls;
+    filters = λ keep told. filter_kept R keep f calls.0 s r told calls.1;
     matches = λ query kept told. any_filtered R same query kept f calls.0 s r told calls.1;
     len = length_kept R f calls.0 s r calls.1;
   }

@@ -1,8 +1,8 @@
 -- What removals of elements leave of a set, one record for each kind of removal. `eq` is the `==` of the elements,
 -- and a test is what a query does with an element.
-use Rattle.std.specs.Prelude.{◌≡◌, ◌&&◌, ◌+◌, ◌-◌, ◌<◌, ◌≤◌, ◌||◌, ℕ, Bool, IfSome, IsTrue, List, Option, Some, drop, false, if◌then◌else◌, is_some, length, min, nat_lt, position, slice_get, take, true, unwrap_or}
+use Rattle.std.specs.Prelude.{◌≡◌, ◌&&◌, ◌+◌, ◌-◌, ◌<◌, ◌≤◌, ◌||◌, ℕ, Bool, IfSome, IsTrue, List, Option, Some, drop, false, filter, if◌then◌else◌, is_some, length, min, nat_lt, position, slice_get, take, true, unwrap_or}
 use Rattle.std.specs.List.{IsDistinct, list_any}
-use Rattle.vecmap_base.specs.{Items.{adds, stored_first}, Kept.{Kept, ReturnsAt}, Lookups.UpdatesMember}
+use Rattle.vecmap_base.specs.{Items.{adds, stored_first}, Kept.{Kept, ReturnsAt, TestsItems}, Lookups.UpdatesMember}
 use Rattle.vecmap_set.specs.{Indices.KeepsMatchIndicesBelow, Tests.AgreesOnEquals}
 
 module _ {T : Type 0} where
@@ -32,6 +32,7 @@ module _ {T : Type 0} where
   -- The list `r` has the elements of the list `s` for which the closure returns `true`, called in order from the state `f` on.
   pub record RetainsItems {F : Type 0} (R : F → T → Bool → T → F → Type 0) (f : F) (s r : List T) : Type 0 where
     pub calls : (g : F) × Kept R f s r g
+    pub filters : (keep : T → Bool) → TestsItems R f keep → r ≡ filter keep s
     -- What queries find whose matches the closure keeps or not, and how many elements there are.
     pub matches : (query : T → Bool) (kept : Bool) → ReturnsAt R f query kept → list_any query r ≡ (list_any query s && kept)
     pub len : length r ≤ length s

@@ -9,7 +9,7 @@ module _ {F X : Type 0} (R : F → X → Bool → X → F → Type 0) where
   length_kept f g [] m k = grind (arith)
   length_kept f g (x ∷ xs) m k = grind (arith, (length_kept k.2 g xs k.3 k.5))
 
-  filter_kept : (keep : X → Bool) (f g : F) (l m : List X) → TestsItems R f keep → Kept R f l m g → m ≡ filter keep l
+  pub filter_kept : (keep : X → Bool) (f g : F) (l m : List X) → TestsItems R f keep → Kept R f l m g → m ≡ filter keep l
   filter_kept keep f g [] m told k = grind (arith)
   filter_kept keep f g (x ∷ xs) m told k = grind (arith, (filter_kept keep k.2 g xs k.3))
 
