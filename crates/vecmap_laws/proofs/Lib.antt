@@ -16,6 +16,7 @@ pub mod EachPair
 pub mod EachValue
 mod EntryPuts
 pub mod Equations
+pub mod Filters
 pub mod Finds
 pub mod FirstValue
 pub mod HeadLemmas
@@ -51,7 +52,10 @@ pub mod SearchedMaps
 pub mod SetEquality
 pub mod SetRelations
 pub mod SortedLemmas
+pub mod Sums
+pub mod TextPairs
 pub mod TextQueries
+pub mod Undone
 pub mod UpdatedLemmas
 pub mod Values
 pub mod WalkLemmas

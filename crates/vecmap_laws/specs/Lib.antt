@@ -3,3 +3,4 @@ pub mod Algebra
 pub mod FirstValue
 pub mod Pulls
 pub mod Removals
+pub mod TextPairs

@@ -1,7 +1,8 @@
 //! Laws of lists, which are laws of maps and of sets.
 ghost use Rattle.std.specs.{Cmp.{IsEquivalence, IsTotalOrder}, Ordering.is_eq, List.IsDistinct, Map.{IsKeyTest, keys_of}};
-ghost use Rattle.std.specs.Prelude.{◌≡◌, ◌≤◌, ℕ, List, String, bytes_eq, false, length, string_bytes, string_eq, true};
+ghost use Rattle.std.specs.Prelude.{◌≡◌, ◌≤◌, ◌&&◌, ℕ, List, String, bytes_eq, false, length, string_bytes, string_eq, true};
 ghost use Rattle.vecmap_base.specs.{Pairs.{HasDistinctKeys, has_text}, Comparisons.{comparisons, cost}};
+ghost use Rattle.vecmap_laws.specs.TextPairs.{both_equal, has_texts};
 ghost use Rattle.std.specs.declared.alloc.Global.{Global};
 
 /// Bounds the number of comparisons that a removal of duplicates makes.
@@ -34,6 +35,18 @@ pub fn texts_are_queries()
     ensures same { (text other : List ℕ) → bytes_eq text other ≡ true → text ≡ other }
     ensures apart { (text other : List ℕ) → bytes_eq text other ≡ false → (k : String Global)
         → has_text text k ≡ true → has_text other k ≡ false }
+{}
+
+/// Two texts match a key of two strings by its parts, as a query. Two such queries match no key in common if they differ
+/// in a part.
+pub fn pairs_of_texts_are_queries()
+    ensures respects { (first second : List ℕ) → IsKeyTest both_equal (has_texts first second) }
+    ensures own { (k : String Global × String Global)
+        → has_texts (string_bytes k.0) (string_bytes k.1) k ≡ true }
+    ensures apart { (first second third fourth : List ℕ)
+        → (bytes_eq first third && bytes_eq second fourth) ≡ false
+        → (k : String Global × String Global) → has_texts first second k ≡ true
+        → has_texts third fourth k ≡ false }
 {}
 
 /// The order of a type is total, and says `Equal` exactly where `==` is true, as [`Ord`] says.

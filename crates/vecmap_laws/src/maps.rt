@@ -1,5 +1,6 @@
 //! Laws of maps, and of the definitions that their contracts use. A call of a law costs nothing at run time, and adds
 //! the law to what the proof of the caller knows.
+mod changes;
 mod distinct;
 mod equality;
 mod insertions;
@@ -8,8 +9,10 @@ mod removals;
 mod writes;
 
 pub use crate::lists::{
-    eq_is_an_equivalence, key_comparisons_are_bounded, ord_is_a_total_order, texts_are_queries,
+    eq_is_an_equivalence, key_comparisons_are_bounded, ord_is_a_total_order,
+    pairs_of_texts_are_queries, texts_are_queries,
 };
+pub use changes::{changes_are_undone, filters_keep_lookups, sums_follow_changes};
 pub use distinct::{
     insertion_keeps_keys_distinct, parts_keep_keys_distinct, removal_keeps_keys_distinct,
 };

@@ -1,5 +1,5 @@
 //! Laws of unions, intersections and differences, and of the lazy iterators over them.
-ghost use Rattle.std.specs.Prelude.{List, [], ◌↔◌, ◌≡◌};
+ghost use Rattle.std.specs.Prelude.{List, [], length, ◌+◌, ◌↔◌, ◌≡◌};
 ghost use Rattle.vecmap_base.specs.Items.{both, only};
 ghost use Rattle.vecmap_laws.specs.Algebra.{AgreeAsSets, IgnoresSides, LengthsAddUp, MakesSets, lazy_intersection, lazy_union};
 ghost use Rattle.vecmap_set.specs.Operators.{symmetric_difference_of, union_of};
@@ -39,9 +39,12 @@ pub fn lazy_iterators_give_no_repeats<T: Eq>()
     ensures union { MakesSets T.eq lazy_union }
 {}
 
-/// The lengths of the intersection and the union add up to the lengths of the two sets.
-#[tactic(auto, using(crate::proofs::AlgebraLemmas::lazy_lengths_add, crate::proofs::AlgebraLemmas::lengths_add))]
+/// The lengths of the intersection and the union add up to the lengths of the two sets, and those of the intersection
+/// and the difference to the length of the first set.
+#[tactic(auto, using(crate::proofs::AlgebraLemmas::lazy_lengths_add, crate::proofs::AlgebraLemmas::lengths_add, crate::proofs::SetRelations::length_both_only))]
 pub fn lengths_of_intersection_and_union_add_up<T: Eq>()
     ensures lazily { LengthsAddUp T.eq lazy_intersection lazy_union }
     ensures by_operators { LengthsAddUp T.eq both union_of }
+    ensures difference { (a b : List T)
+        → length (both T.eq a b) + length (only T.eq a b) ≡ length a }
 {}
