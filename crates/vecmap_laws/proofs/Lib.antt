@@ -51,7 +51,6 @@ pub mod Rules
 pub mod SearchedMaps
 pub mod SetEquality
 pub mod SetRelations
-pub mod SortedLemmas
 pub mod Sums
 pub mod TextPairs
 pub mod TextQueries

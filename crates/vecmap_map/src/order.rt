@@ -1,6 +1,6 @@
 //! Reversing, moving, swapping and sorting the pairs.
-ghost use Rattle.std.specs.{Prelude.{◌≡◌, ◌<◌, ◌≤◌, Bool, IsOk, OnErr, OnOk, length}, List.Sorted.{IsSortedByKey, IsStableByKey}};
-ghost use Rattle.std.specs.Ordering.{is_lt};
+ghost use Rattle.std.specs.{Prelude.{◌≡◌, ◌<◌, ◌≤◌, Bool, IsOk, OnErr, OnOk, length}, List.Sorted.{IsSorted, IsSortedByKey, IsStableByKey}};
+ghost use Rattle.std.specs.{Map.keys_of, Ordering.is_lt};
 ghost use Rattle.vecmap_base.specs.{Lookups.IsReordered, Reorders.{MovesPair, ReversesPairs, SwapsPairs}};
 ghost use Rattle.vecmap_base.specs.Orders.{ComparesPairsAs, IsSortedByPairClosure, IsSortedByPairKey, IsStableByPairClosure, IsStableByPairKey, ReturnsOnPair};
 
@@ -101,6 +101,7 @@ impl<K, V> VecMap<K, V> {
     where
         K: Ord,
         ensures sorted { OnOk result (IsSortedByKey (λ p. p.0) K.cmp self.new.entries) }
+        ensures keys_sorted { OnOk result (IsSorted K.cmp (keys_of self.new.entries)) }
         ensures stable { IsStableByKey (λ p. p.0) K.cmp self.old.entries self.new.entries }
         ensures reordered { IsReordered self.old.entries self.new.entries }
         ensures err { OnErr result (self.new ≡ self.old) }
@@ -211,6 +212,7 @@ impl<K, V> VecMap<K, V> {
     where
         K: Ord,
         ensures sorted { IsSortedByKey (λ p. p.0) K.cmp self.new.entries }
+        ensures keys_sorted { IsSorted K.cmp (keys_of self.new.entries) }
         ensures reordered { IsReordered self.old.entries self.new.entries }
         ensures capacity { self.new.capacity ≡ self.old.capacity }
     {

@@ -1,7 +1,7 @@
 //! Binary searches in sorted pairs. None allocates.
-ghost use Rattle.std.specs.Prelude.{◌≡◌, ◌<◌, ◌≤◌, Bool, Contains, IfOk, List, Some, false, is_ok, is_some, length, true};
-ghost use Rattle.std.specs.{List.{All, HoldsAt}, declared.cmp.Ordering.Ordering};
-ghost use Rattle.std.specs.List.Sorted.{IsBinarySearchResult, IsPartitionPoint, IsPartitionedBy, IsSearchInRange, IsSortedByKey};
+ghost use Rattle.std.specs.Prelude.{◌≡◌, ◌<◌, ◌≤◌, Bool, Contains, IfErr, IfOk, List, Some, false, insert, is_ok, is_some, length, true};
+ghost use Rattle.std.specs.{List.{All, HoldsAt}, Map.keys_of, declared.cmp.Ordering.Ordering};
+ghost use Rattle.std.specs.List.Sorted.{IsBinarySearchResult, IsPartitionPoint, IsPartitionedBy, IsSearchInRange, IsSorted, IsSortedByKey};
 ghost use Rattle.vecmap_base.specs.{Orders.{CallableOnPair, ReturnsOnPairs}, Pairs.{HasDistinctKeys, index_of, lookup, value_at}};
 
 use crate::VecMap;
@@ -35,6 +35,10 @@ impl<K, V> VecMap<K, V> {
         // What follows for lookups, lengths and indices.
         ensures found { IsSortedByKey (λ p. p.0) K.cmp self.now.entries
             → is_ok result ≡ is_some (lookup K.eq self.now.entries key.now) }
+        ensures found_by_keys { IsSorted K.cmp (keys_of self.now.entries)
+            → is_ok result ≡ is_some (lookup K.eq self.now.entries key.now) }
+        ensures keys_sorted { IfErr result (λ i. IsSorted K.cmp (keys_of self.now.entries)
+            → IsSorted K.cmp (insert (keys_of self.now.entries) i key.now)) }
         ensures at { HasDistinctKeys K.eq self.now.entries → IfOk result (λ i.
             (index_of K.eq self.now.entries key.now ≡ Some i)
             × (value_at self.now.entries i ≡ lookup K.eq self.now.entries key.now)) }

@@ -1,11 +1,11 @@
 -- What a binary search says of a list: whether an item compares as equal, if comparisons rise with the items.
-use Rattle.std.specs.Prelude.{◌≡◌, ◌≤◌, ℕ, Bool, Err, List, [], ◌∷◌, IfOk, Ok, Result, Some, false, is_ok, length, slice_get, true}
+use Rattle.std.specs.Prelude.{◌≡◌, ◌+◌, ◌-◌, ◌<◌, ◌≤◌, ℕ, Bool, Err, List, [], ◌∷◌, IfOk, Ok, Result, Some, false, insert, is_ok, length, slice_get, true}
 use Rattle.std.specs.{Cmp.{IsTotalOrder, alike_right, IsStrictWeakOrder}, List.list_any, declared.cmp.Ordering.Ordering}
 use Rattle.std.specs.List.Sorted.{IsBinarySearchResult, IsNonDecreasingBy, IsPartitionPoint, IsSearchInRange, IsSortedByKey}
 use Rattle.std.specs.Ordering.{is_eq, is_gt, is_lt, ordering_index, ordering_reverse}
 use Rattle.std.specs.declared.cmp.Ordering.TheVariants.{Equal, Greater, Less}
 use Rattle.std.proofs.{Common.{◌∙◌, ap, arith, get_or, inl, inr, nat_lt, refl, subst, sym, true≢false}, lemmas.Option.slice_get-get_or}
-use Rattle.std.proofs.lemmas.{Bool.{cases_Bool, ltb-false, ltb-true}, List.{Folds.{list_any_at, list_any_none}, Sorted.sorted_far}}
+use Rattle.std.proofs.lemmas.{Bool.{cases_Bool, ltb-false, ltb-true}, List.{Edits.{get_or-insert_above, get_or-insert_at, get_or-insert_below, length-insert}, Folds.{list_any_at, list_any_none}, Sorted.sorted_far}}
 
 module _ {X K : Type 0} (key : X → K) (cmp : K → K → Ordering) (o : IsTotalOrder cmp) where
   abbrev pub less : X → X → Bool
@@ -63,3 +63,41 @@ module _ {X K : Type 0} (key : X → K) (cmp : K → K → Ordering) (o : IsTota
       let y = key (get_or (x ∷ xs) i x) in
       sym (list_any_at (λ z. eq k (key z)) (x ∷ xs) i x within (matches k y ∙ ap is_eq (o.antisymm k y ∙ ap ordering_reverse (at x))))
   search_finds_equal eq matches k xs (Err i) within at sorted = sym (none_at_partition eq matches k xs i (at (comparisons_rise k xs sorted)))
+
+  -- An insertion between the smaller and the greater items keeps the order.
+  pub sorted_insert : (xs : List X) (i : ℕ) (x : X) → i ≤ length xs → IsSortedByKey key cmp xs → IsPartitionPoint (λ y. cmp (key y) (key x) ≡ Less) (λ y. cmp (key y) (key x) ≡ Greater) xs i → IsSortedByKey key cmp (insert xs i x)
+  sorted_insert xs i x fits sorted split k d from within =
+      let long = length-insert xs i x fits in
+      elim (cases_Bool (nat_lt (k + 1) i)) [
+        | inl e ↦
+            let l : k + 1 < i = ltb-true (k + 1) i e in
+            (λ t. less (get_or-insert_below xs i x d (k + 1) l fits t) (get_or-insert_below xs i x d k (omega (arith, l)) fits t)) ∙ sorted k d (omega arith) (omega (arith, l, fits))
+        | inr e ↦
+            let l : i ≤ k + 1 = ltb-false (k + 1) i e in
+            elim (cases_Bool (nat_lt k i)) [
+              | inl f ↦
+                  let m : k < i = ltb-true k i f in
+                  let z : k + 1 ≡ i = omega (arith, l, m) in
+                  ap (λ n. less (get_or (insert xs i x) n d) (get_or (insert xs i x) k d)) z
+                  ∙ (λ t. less (get_or-insert_at xs i x d fits t) (get_or-insert_below xs i x d k m fits t))
+                  ∙ less_is_greater x (get_or xs k d)
+                  ∙ ap is_gt (split.0 k d (omega arith) m)
+              | inr f ↦
+                  let m : i ≤ k = ltb-false k i f in
+                  ap (λ y. less y (get_or (insert xs i x) k d)) (get_or-insert_above xs i x d k m fits)
+                  ∙ elim (cases_Bool (nat_lt i k)) [
+                    | inl g ↦
+                        let n : i < k = ltb-true i k g in
+                        let z : k ≡ (k - 1) + 1 = omega (arith, n) in
+                        ap (λ j. less (get_or xs k d) (get_or (insert xs i x) j d)) z
+                        ∙ ap (λ y. less (get_or xs k d) y) (get_or-insert_above xs i x d (k - 1) (omega (arith, n)) fits)
+                        ∙ ap (λ j. less (get_or xs j d) (get_or xs (k - 1) d)) z
+                        ∙ sorted (k - 1) d (omega arith) (omega (arith, n, within, long))
+                    | inr g ↦
+                        let n : k ≡ i = (let h = ltb-false i k g in omega (arith, m, h)) in
+                        ap (λ j. less (get_or xs k d) (get_or (insert xs i x) j d)) n
+                        ∙ ap (λ y. less (get_or xs k d) y) (get_or-insert_at xs i x d fits)
+                        ∙ ap is_lt (split.1 k d m (omega (arith, within, long)))
+                  ]
+            ]
+      ]

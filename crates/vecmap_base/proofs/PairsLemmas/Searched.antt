@@ -1,11 +1,33 @@
 -- What a binary search of a list of pairs says of its key: whether it is present, if the keys ascend, and where it is.
-use Rattle.std.specs.{Cmp.IsEquivalence, Cmp.IsTotalOrder, Option.option_and_then, Ordering.is_eq, declared.cmp.Ordering.Ordering}
-use Rattle.std.specs.Prelude.{◌≡◌, ℕ, Bool, Err, IfOk, List, [], ◌∷◌, Ok, Result, Some, is_ok, is_some, length, true}
-use Rattle.std.specs.List.Sorted.{IsBinarySearchResult, IsSearchInRange, IsSortedByKey}
-use Rattle.std.proofs.{Common.{◌∙◌, ap, arith, get_or, sym}, lemmas.Option.slice_get-get_or}
+use Rattle.std.specs.{Cmp.IsEquivalence, Cmp.IsTotalOrder, Map.keys_of, Option.option_and_then, Ordering.{is_eq, is_lt}, declared.cmp.Ordering.Ordering}
+use Rattle.std.specs.Prelude.{◌≡◌, ◌+◌, ◌<◌, ℕ, Bool, Err, IfErr, IfOk, List, [], ◌∷◌, Ok, Result, Some, insert, is_ok, is_some, length, true}
+use Rattle.std.specs.List.Sorted.{IsBinarySearchResult, IsSearchInRange, IsSorted, IsSortedByKey}
+use Rattle.std.proofs.{Common.{◌∙◌, ap, arith, get_or, subst, sym}, lemmas.{List.{Edits.length-insert, get_or-map, length-map}, Option.slice_get-get_or}}
 use Rattle.vecmap_base.specs.Pairs.{HasDistinctKeys, index_of, lookup, value_at}
-use Rattle.vecmap_base.proofs.{IndexLemmas.is_some_position, ItemsLemmas.Sorted.search_finds_equal}
-use Rattle.vecmap_base.proofs.PairsLemmas.{AtIndices.index_by_own, ByIndex.index_by_is, ByIndex.is_some_lookup_by, ByIndex.lookup_by_index}
+use Rattle.vecmap_base.proofs.{IndexLemmas.is_some_position, ItemsLemmas.Sorted.{comparisons_rise, search_finds_equal, sorted_insert}}
+use Rattle.vecmap_base.proofs.PairsLemmas.{AtIndices.index_by_own, ByIndex.index_by_is, ByIndex.is_some_lookup_by, ByIndex.lookup_by_index, Keys.keys_of_insert}
+
+module _ {K V : Type 0} (cmp : K → K → Ordering) where
+  -- The pairs ascend by their keys exactly if the list of the keys ascends.
+  pub keys_sorted : (l : List (K × V)) → IsSortedByKey (λ p. p.0) cmp l → IsSorted cmp (keys_of l)
+  keys_sorted [] sorted k d from within = absurd (omega (arith, within))
+  keys_sorted (p ∷ ps) sorted k d from within =
+      let m : k + 1 < length (p ∷ ps) = omega (arith, within, length-map (p ∷ ps) (λ q. q.0)) in
+      (λ i. is_lt (cmp (get_or-map (λ q. q.0) (p ∷ ps) (k + 1) p d m i) (get_or-map (λ q. q.0) (p ∷ ps) k p d (omega (arith, m)) i))) ∙ sorted k p from m
+
+  pub sorted_by_keys : (l : List (K × V)) → IsSorted cmp (keys_of l) → IsSortedByKey (λ p. p.0) cmp l
+  sorted_by_keys l sorted k d from within =
+      sym (λ i. is_lt (cmp (get_or-map (λ q. q.0) l (k + 1) d d.0 within i) (get_or-map (λ q. q.0) l k d d.0 (omega (arith, within)) i)))
+      ∙ sorted k d.0 from (omega (arith, within, length-map l (λ q. q.0)))
+
+  -- If the keys ascend, they still do with a new one where a binary search for it ends.
+  pub sorted_with_key : IsTotalOrder cmp → (l : List (K × V)) (k : K) (r : Result ℕ ℕ) → IsSearchInRange r (length l) → IsBinarySearchResult (λ p. cmp p.0 k) l r → IfErr r (λ i. IsSorted cmp (keys_of l) → IsSorted cmp (insert (keys_of l) i k))
+  sorted_with_key o l k (Ok i) within at = tt
+  sorted_with_key o [] k (Err i) within ends = λ sorted j d from below. absurd (omega (arith, below, length-insert [] i k within))
+  sorted_with_key o (p ∷ ps) k (Err i) within ends = λ sorted.
+      let by_key = sorted_by_keys (p ∷ ps) sorted in
+      let split = ends (comparisons_rise (λ q. q.0) cmp o k (p ∷ ps) by_key) in
+      subst (IsSorted cmp) (keys_of_insert (p ∷ ps) i k p.1) (keys_sorted (insert (p ∷ ps) i (k, p.1)) (sorted_insert (λ q. q.0) cmp o (p ∷ ps) i (k, p.1) within by_key split))
 
 module _ {K V : Type 0} (eq : K → K → Bool) (cmp : K → K → Ordering) (o : IsTotalOrder cmp) (matches : (x y : K) → eq x y ≡ is_eq (cmp x y)) where
   -- A binary search succeeds exactly if the key is present.
