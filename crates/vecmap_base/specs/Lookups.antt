@@ -1,5 +1,5 @@
 -- What lookups find after a change of a list of pairs. `eq` is the `==` of keys.
-use Rattle.std.specs.Prelude.{◌≡◌, [], ◌+◌, ◌<◌, ◌≤◌, ℕ, Bool, IsSome, IsTrue, List, None, Option, Some, cond, false, is_some, length, min, position, slice_get, slice_set, take, true}
+use Rattle.std.specs.Prelude.{◌≡◌, [], ◌+◌, ◌<◌, ◌≤◌, ℕ, Bool, IsSome, IsTrue, List, None, Option, Some, cond, false, if◌then◌else◌, is_some, length, min, nat_lt, position, slice_get, slice_set, take, true, unwrap_or}
 use Rattle.std.specs.{List.list_any, List.Sorted.IsPermutation, Option.option_or, Cmp.IsEquivalence}
 use Rattle.std.specs.Set.{is_member, KeepsOthers as KeepsOtherItems}
 use Rattle.std.specs.Map.{IsKeyTest, KeepsOthers, keys_of, set_value, values_of}
@@ -31,6 +31,7 @@ module _ {K V : Type 0} where
     pub found : (test : K → Bool) (i : ℕ) → index_by test l ≡ Some i → i < n → lookup_by test m ≡ lookup_by test l
     pub gone : (test : K → Bool) (i : ℕ) → index_by test l ≡ Some i → n ≤ i → lookup_by test m ≡ None
     pub absent : (test : K → Bool) → lookup_by test l ≡ None → lookup_by test m ≡ None
+    pub lookups : (test : K → Bool) → lookup_by test m ≡ (if nat_lt (unwrap_or (index_by test l) (length l)) n then lookup_by test l else None)
     pub distinct : (eq : K → K → Bool) → HasDistinctKeys eq l → HasDistinctKeys eq m
     pub indices : (test : K → Bool) (i : ℕ) → index_by test l ≡ Some i → i < n → index_by test m ≡ Some i
     pub keys : keys_of m ≡ take n (keys_of l)

@@ -1,10 +1,10 @@
 -- What lookups find after each call, as equations that `grind` applies from left to right. `Rules` has lists of them.
 use Rattle.std.specs.{Cmp.IsEquivalence, List.IsDistinct, List.Sorted.SwapsInRange, List.Sorted.apply_swaps, Set.is_member, Prelude.nat_lt}
-use Rattle.std.proofs.Common.{rules, ◌≡◌, ◌<◌, ◌&&◌, not, ℕ, suc, zero, Bool, true, false, List, [], ◌∷◌, Option, None, Some, if◌then◌else◌, length, refl, sym, ap, ◌∙◌, arith, is_some, take, drop, remove, reverse, swap, unwrap_or}
+use Rattle.std.proofs.Common.{◌≡◌, ◌<◌, ◌&&◌, not, ℕ, suc, zero, Bool, true, false, List, [], ◌∷◌, Option, None, Some, if◌then◌else◌, length, refl, sym, ap, ◌∙◌, arith, is_some, take, drop, remove, reverse, swap}
 use Rattle.std.proofs.lemmas.{Bool.Decides.nat_tests, List.Sorted.IsPermutation-reverse}
 use Rattle.vecmap_base.specs.Items.{swap_without, swap_without_item, without_item}
-use Rattle.vecmap_base.specs.Pairs.{HasDistinctKeys, index_by, index_of, index_or_length, lookup, lookup_by, put_at, put_key, swap_without_key, without_key}
-use Rattle.vecmap_base.proofs.RemovalLemmas.{swap_removes_by}
+use Rattle.vecmap_base.specs.Pairs.{HasDistinctKeys, index_of, index_or_length, lookup, put_at, put_key, swap_without_key, without_key}
+use Rattle.vecmap_base.proofs.{PairsLemmas.Parts.lookup_by_take, RemovalLemmas.swap_removes_by}
 use Rattle.vecmap_laws.proofs.{AfterPuts.{is_some_lookup, lookup_put_any, lookup_put_key}, HeadLemmas.{head_has_no_value, rest_is_distinct}}
 use Rattle.vecmap_laws.proofs.{DistinctKeys.{distinct_keys_rearranged, distinct_keys_without}, Indices.index_or_length_cons}
 use Rattle.vecmap_laws.proofs.{Inserted.lookup_put_at, Lookups.lookup_congr, Order.lookup_rearranged, Recursion.lookup_cons}
@@ -39,26 +39,14 @@ module _ {K V : Type 0} (eq : K → K → Bool) (o : IsEquivalence eq) where
   pub distinct_without_key : (l : List (K × V)) (k : K) → HasDistinctKeys eq l → HasDistinctKeys eq (without_key eq l k)
   distinct_without_key l k d = distinct_keys_without eq (eq k) l d
 
-found_below : {V : Type 0} (b : Bool) (x : Option V) (i n : ℕ) (f t : Option V) → t ≡ (if nat_lt i n then f else None) → (if b then x else t) ≡ (if nat_lt (if b then 0 else suc i) (suc n) then (if b then x else f) else None)
-found_below true x i n f t e = grind (arith, nat_tests)
-found_below false x i n f t e = grind (arith, nat_tests)
-
 same : {X : Type 0} (b : Bool) (x : X) → x ≡ (if b then x else x)
 same true x = refl
 same false x = refl
 
-none_below : {V : Type 0} (i : ℕ) (f : Option V) → None ≡ (if nat_lt i 0 then f else None)
-none_below i f = grind (arith, nat_tests)
-
 all_past : {V : Type 0} (i : ℕ) (f : Option V) → f ≡ (if nat_lt i 0 then None else f)
 all_past i f = grind (arith, nat_tests)
 
--- In the first `n` pairs a query finds its value if its index is below `n`.
-pub lookup_by_take : {K V : Type 0} (test : K → Bool) (l : List (K × V)) (n : ℕ) → lookup_by test (take n l) ≡ (if nat_lt (unwrap_or (index_by test l) (length l)) n then lookup_by test l else None)
-lookup_by_take test l zero = search (rules, none_below, same, found_below, index_or_length_cons)
-lookup_by_take test [] (suc n) = search (rules, none_below, same, found_below, index_or_length_cons)
-lookup_by_take test (p ∷ ps) (suc n) = search (rules, none_below, same, found_below, index_or_length_cons, (lookup_by_take test ps n))
-
+-- In the first `n` pairs a key finds its value if its index is below `n`.
 pub lookup_take : {K V : Type 0} (eq : K → K → Bool) (l : List (K × V)) (n : ℕ) (q : K) → lookup eq (take n l) q ≡ (if nat_lt (index_or_length eq l q) n then lookup eq l q else None)
 lookup_take eq l n q = lookup_by_take (eq q) l n
 

@@ -1,7 +1,7 @@
 -- What lookups find in the front of a list, after the insertions of many pairs, and whether anything matches in another order.
 use Rattle.std.specs.{Cmp.IsEquivalence, List.IsDistinct, List.Sorted.IsPermutation, Map.{IsKeyTest, keys_of}, Option.option_or}
-use Rattle.std.proofs.Common.{◌≡◌, ◌∙◌, ◌<◌, ◌≤◌, ℕ, zero, suc, Bool, true, false, List, [], ◌∷◌, ◌++◌, None, Some, ap, arith, cond, drop, is_some, refl, subst, sym, take}
-use Rattle.std.proofs.{lemmas.Bool.cases_Bool, lemmas.List.{length-take, map-append, take-append-drop, take-map, append-nil, append_assoc}}
+use Rattle.std.proofs.Common.{◌≡◌, ◌∙◌, ◌<◌, ◌≤◌, ℕ, zero, suc, Bool, true, false, List, [], ◌∷◌, ◌++◌, None, Option, Some, ap, arith, cond, drop, if◌then◌else◌, is_some, length, nat_lt, option_map, refl, subst, sym, take, unwrap_or}
+use Rattle.std.proofs.{lemmas.Bool.{cases_Bool, Decides.nat_tests}, lemmas.List.{length-take, map-append, take-append-drop, take-map, append-nil, append_assoc}}
 use Rattle.std.proofs.{lemmas.List.Sorted.{list_any-IsPermutation, IsPermutation-append_comm}, lemmas.Map.lookup-none}
 use Rattle.std.proofs.{lemmas.Map.Entries.none_past_head, lemmas.Map.Keys.IsDistinct-tail, lemmas.Option.{none-some, same_Some}}
 use Rattle.vecmap_base.specs.{Lookups.{Joins, KeepsFront, MakesPairs}, Pairs.{HasDistinctKeys, index_by, lookup_by, put, puts}}
@@ -27,6 +27,18 @@ module _ {K V : Type 0} (test : K → Bool) where
   absent_in_front : (n : ℕ) (l : List (K × V)) → lookup_by test l ≡ None → lookup_by test (take n l) ≡ None
   absent_in_front n l e = grind (arith, (lookup_by_append (take n l) (drop n l)), (take-append-drop n l))
 
+  -- In the front, a query finds what it found if its match is there.
+  pub lookup_by_take : (l : List (K × V)) (n : ℕ) → lookup_by test (take n l) ≡ (if nat_lt (unwrap_or (index_by test l) (length l)) n then lookup_by test l else None)
+  lookup_by_take l zero = grind (arith, nat_tests)
+  lookup_by_take [] (suc n) = grind (arith, cases_Bool)
+  lookup_by_take (p ∷ ps) (suc n) = by (test p.0) (index_by test ps) (lookup_by_take ps n)
+    where
+      by : (b : Bool) (i : Option ℕ) → lookup_by test (take n ps) ≡ (if nat_lt (unwrap_or i (length ps)) n then lookup_by test ps else None)
+          → cond b (Some p.1) (lookup_by test (take n ps)) ≡ (if nat_lt (unwrap_or (if b then Some 0 else option_map suc i) (suc (length ps))) (suc n) then cond b (Some p.1) (lookup_by test ps) else None)
+      by true i e = grind (arith, nat_tests)
+      by false None e = grind (arith, nat_tests)
+      by false (Some i) e = grind (arith, nat_tests)
+
   -- In another order, a query matches a key exactly if it did.
   pub matches_rearranged : (l m : List (K × V)) → IsPermutation l m → is_some (index_by test m) ≡ is_some (index_by test l)
   matches_rearranged l m moved = grind (arith, list_any-IsPermutation, index_by_is, is_some_position)
@@ -38,6 +50,7 @@ module _ {K V : Type 0} where
     found = λ test. found_in_front test n l;
     gone = λ test. gone_from_front test n l;
     absent = λ test. absent_in_front test n l;
+    lookups = λ test. lookup_by_take test l n;
     distinct = λ eq d. subst (IsDistinct eq) (take-map (λ p. p.0) n l) (distinct_take eq n (keys_of l) d);
     indices = λ test. index_in_front test n l;
     keys = sym (take-map (λ p. p.0) n l);
