@@ -43,7 +43,8 @@ use std::marker::Model;
 /// # Complexity
 ///
 /// A call with a key or a query compares it with the keys in order, up to the first match: at most `len` comparisons.
-/// Unless its `# Complexity` says otherwise, any other call compares no keys, and no call moves pairs or allocates.
+/// Unless its `# Complexity`, or that of the call that it is like, says otherwise, any other call compares no keys, and
+/// no call moves pairs or allocates.
 ///
 /// # Examples
 ///

@@ -31,7 +31,7 @@ impl<K, V> VecMap<K, V> {
     /// Calls `f` with each key and a mutable reference to its value, in order.
     ///
     /// The keys, their order and the capacity stay. Unlike after a loop over [`VecMap::iter_mut`], a proof knows what
-    /// was written:
+    /// was written, by the fields of `update`:
     ///
     /// - If `f` writes the same function of each pair, the new pairs are that function of the old ones. Such an `f` may
     ///   only read what it captures (`written`), or also write it, such as a closure that counts its calls

@@ -39,8 +39,8 @@ use std::marker::Model;
 ///
 /// # Complexity
 ///
-/// A call with an element or a query makes at most `len` comparisons. Unless its `# Complexity` says otherwise, any
-/// other call makes none, and no call moves elements or allocates.
+/// A call with an element or a query makes at most `len` comparisons. Unless its `# Complexity`, or that of the call
+/// that it is like, says otherwise, any other call makes none, and no call moves elements or allocates.
 ///
 /// # Examples
 ///
