@@ -54,9 +54,6 @@ module _ {F K V : Type 0} (R : F → K × V → Bool → K × V → F → Type 0
     pub selected : (test : K → Bool) (kept : Bool) → ReturnsAtKey f test kept → lookup_by test m ≡ (if kept then lookup_by test l else None)
     pub stays : (test : K → Bool) → ReturnsAtKey f test true → lookup_by test m ≡ lookup_by test l
     pub gone : (test : K → Bool) → ReturnsAtKey f test false → lookup_by test m ≡ None
-    -- What a query finds that found the value `v`, if the closure returns the same at each such value.
-    pub value_stays : (test : K → Bool) (v : V) → lookup_by test l ≡ Some v → ReturnsAtValue f v true → lookup_by test m ≡ Some v
-    pub value_gone : (test : K → Bool) (v : V) → lookup_by test l ≡ Some v → ReturnsAtValue f v false → (eq : K → K → Bool) → HasDistinctKeys eq l → IsKeyTest eq test → lookup_by test m ≡ None
     pub distinct : (eq : K → K → Bool) → HasDistinctKeys eq l → HasDistinctKeys eq m
     -- How many pairs are left, and which if the closure only tests them.
     pub left : Retains f l m

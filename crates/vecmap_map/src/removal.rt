@@ -1,6 +1,6 @@
 //! Removal of pairs.
-ghost use Rattle.std.specs.Prelude.{◌≡◌, ◌<◌, ◌≤◌, Bool, IfNone, IfOk, IsOk, OnErr, String, [], length, string_eq};
-ghost use Rattle.vecmap_base.specs.{Asked.{CallableAtPair, CallableOnEach, CallsAtPair}, Kept.RetainsPairs};
+ghost use Rattle.std.specs.{Prelude.{◌≡◌, ◌<◌, ◌≤◌, Bool, IfNone, IfOk, IsOk, None, OnErr, Some, String, [], false, length, string_eq, true}, Map.IsKeyTest};
+ghost use Rattle.vecmap_base.specs.{Asked.{CallableAtPair, CallableOnEach, CallsAtPair}, Kept.{RetainsPairs, ReturnsAtValue}};
 ghost use Rattle.vecmap_base.specs.{Lookups.KeepsFront, Pairs.{HasDistinctKeys, has_text, lookup_by}};
 ghost use Rattle.vecmap_base.specs.Removals.{FindsPair, RemovesAt, RemovesBy, RemovesLast, SplitsAt, SwapRemovesAt, SwapRemovesBy};
 
@@ -99,8 +99,8 @@ impl<K, V> VecMap<K, V> {
     ///
     /// If `f` only reads what it captures, a proof knows what lookups find afterwards in three cases: what `f` does depends
     /// on the value alone (`lookups`), or `f` leaves the values and returns the same for each key that a query matches
-    /// (`selected`), or at the value that it finds (`value_stays`, `value_gone`). If `f` only tests the pairs, those that
-    /// are left are a filter (`left`). Distinct keys stay distinct.
+    /// (`selected`), or at the value that it finds (`stays`, `gone`). If `f` only tests the pairs, those that are left are
+    /// a filter (`left`). Distinct keys stay distinct.
     ///
     /// # Preconditions
     ///
@@ -126,6 +126,16 @@ impl<K, V> VecMap<K, V> {
         requires callable { CallableOnEach (CallsAtPair F.FnMut)
             (CallableAtPair F.FnMut) f self.old.entries }
         ensures selection { RetainsPairs (CallsAtPair F.FnMut) f self.old.entries self.new.entries }
+
+        // What a query finds that found `v`, if `f` returns the same for all pairs with this value. A search finds these two
+        // as clauses, and not as fields.
+        ensures stays { (test : K → Bool) (v : V) → lookup_by test self.old.entries ≡ Some v
+            → ReturnsAtValue (CallsAtPair F.FnMut) f v true
+            → lookup_by test self.new.entries ≡ Some v }
+        ensures gone { (test : K → Bool) (v : V) → lookup_by test self.old.entries ≡ Some v
+            → ReturnsAtValue (CallsAtPair F.FnMut) f v false → (eq : K → K → Bool)
+            → HasDistinctKeys eq self.old.entries → IsKeyTest eq test
+            → lookup_by test self.new.entries ≡ None }
         ensures capacity { self.new.capacity ≡ self.old.capacity }
     {
         retain_pairs(&mut self.pairs, f);

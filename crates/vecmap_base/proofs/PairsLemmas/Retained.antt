@@ -2,7 +2,7 @@
 use Rattle.std.proofs.Common.{◌≡◌, ◌≤◌, Bool, true, List, [], ◌∷◌, None, arith, false, filter, length, not}
 use Rattle.std.proofs.{lemmas.Bool.cases_Bool, lemmas.Option.none-some}
 use Rattle.vecmap_base.specs.{Kept.{KeepsKeys, Kept, Retains, RetainsPairs, ReturnsAtKey, TestsItems}, Pairs.lookup_by}
-use Rattle.vecmap_base.proofs.PairsLemmas.Filtered.{distinct_keys_kept, lookup_by_filtered, lookup_by_returned, value_gone, value_stays}
+use Rattle.vecmap_base.proofs.PairsLemmas.Filtered.{distinct_keys_kept, lookup_by_filtered, lookup_by_returned}
 
 module _ {F X : Type 0} (R : F → X → Bool → X → F → Type 0) where
   pub length_kept : (f g : F) (l m : List X) → Kept R f l m g → length m ≤ length l
@@ -30,8 +30,6 @@ retains_pairs R same f l m kept = record {
   selected = λ test stays told. lookup_by_returned R same test stays f kept.0 l m told kept.1;
   stays = λ test told. lookup_by_returned R same test true f kept.0 l m told kept.1;
   gone = λ test told. lookup_by_returned R same test false f kept.0 l m told kept.1;
-  value_stays = λ test v e told. value_stays R same test v f kept.0 l m told kept.1 e;
-  value_gone = λ test v e told eq d respects. value_gone R same test eq respects v f kept.0 l m d told kept.1 e;
   distinct = λ eq. distinct_keys_kept R same eq f kept.0 l m kept.1;
   left = retains R f l m kept;
 }
