@@ -1,9 +1,9 @@
 -- What a call that reads a whole iterator by value says of all of its items.
-use Rattle.std.proofs.{Common.{◌≡◌, ◌∙◌, Bool, Err, List, [], Ok, Option, Result, filter, subst, true}, lemmas.Result.IfOk-weaker}
-use Rattle.std.specs.{Cmp.IsEquivalence, Iterator.DrainsIf, Iterator.Runs.{Run, YieldsRun}, Map.Iter.TakesFirst, Prelude.IfOk}
+use Rattle.std.proofs.{Common.{◌≡◌, Bool, Err, List, Ok, Option, Result, filter, subst, true}, lemmas.Result.IfOk-weaker}
+use Rattle.std.specs.{Iterator.DrainsIf, Iterator.Runs.{Run, YieldsRun}, Map.Iter.TakesFirst, Prelude.IfOk}
 use Rattle.std.proofs.{lemmas.Iterator.Adapters.fact_from_collect, lemmas.Iterator.Consumers.YieldsList-from_rest}
-use Rattle.vecmap.specs.Pairs.{HasDistinctKeys, puts}
-use Rattle.vecmap_laws.proofs.{DistinctParts.distinct_keys_filter, Puts.puts_distinct}
+use Rattle.vecmap.specs.{Lookups.MakesPairs, Pairs.HasDistinctKeys}
+use Rattle.vecmap_laws.proofs.DistinctParts.{distinct_keys_filter}
 
 module _ {S A : Type 0} {steps : S → Option A → S → Type 0} (p : Run steps) where
   -- The items that a run read.
@@ -19,6 +19,6 @@ of_all_items {A} {V} {E} Q (Ok v) all e runs holds =
 of_all_items Q (Err x) all e runs holds = tt
 
 -- If in each run a part is made of the items that are kept, it has the pairs of the list that are kept.
-pub kept_part : {K V E C : Type 0} (eq : K → K → Bool) (o : IsEquivalence eq) {s : List (K × V)} {Says : Run (TakesFirst {A = K × V} (λ x. x)) → C → Type 0} (part : C → List (K × V)) (r : Result C E) (l : List (K × V)) → HasDistinctKeys eq l → s ≡ l → IfOk r (λ v. (p : Run (TakesFirst {A = K × V} (λ x. x))) × (p.from ≡ s) × (p.whole ≡ true) × Says p v) → (keep : K × V → Bool) → ((p : Run (TakesFirst {A = K × V} (λ x. x))) (v : C) → Says p v → part v ≡ puts eq [] (filter keep p.items)) → IfOk r (λ v. part v ≡ filter keep l)
-kept_part eq o part r l d from runs keep made =
-    IfOk-weaker r _ _ (λ v e. e ∙ puts_distinct eq o (filter keep l) (distinct_keys_filter eq keep l d)) (of_all_items (λ items v. part v ≡ puts eq [] (filter keep items)) r l from runs made)
+pub kept_part : {K V E C : Type 0} (eq : K → K → Bool) {s : List (K × V)} {Says : Run (TakesFirst {A = K × V} (λ x. x)) → C → Type 0} (part : C → List (K × V)) (r : Result C E) (l : List (K × V)) → HasDistinctKeys eq l → s ≡ l → IfOk r (λ v. (p : Run (TakesFirst {A = K × V} (λ x. x))) × (p.from ≡ s) × (p.whole ≡ true) × Says p v) → (keep : K × V → Bool) → ((p : Run (TakesFirst {A = K × V} (λ x. x))) (v : C) → Says p v → MakesPairs eq (filter keep p.items) (part v)) → IfOk r (λ v. part v ≡ filter keep l)
+kept_part eq part r l d from runs keep made =
+    IfOk-weaker r _ _ (λ v made. made.as_given (distinct_keys_filter eq keep l d)) (of_all_items (λ items v. MakesPairs eq (filter keep items) (part v)) r l from runs made)

@@ -2,6 +2,7 @@
 ghost use Rattle.std.specs.{Iterator.Runs.CollectsByExtend, Map.keys_of, Option.{option_map_or, option_or}};
 ghost use Rattle.std.specs.Prelude.{IsSome, List, None, Some, [], false, if◌then◌else◌, insert, is_some, length, min, reverse, slice_get, unwrap_or, ℕ, ◌++◌, ◌+◌, ◌∷◌, ◌≡◌, ◌≤◌};
 ghost use Rattle.vecmap_base.specs.Items.{add, adds, item_index};
+ghost use Rattle.vecmap_base.specs.Lookups.{MakesPairs};
 ghost use Rattle.vecmap_base.specs.Pairs.{HasDistinctKeys, index_of, index_or_length, lookup, put, put_at, put_key, puts, without_key};
 ghost use Rattle.vecmap_laws.specs.FirstValue.{put_new, puts_new};
 ghost use Rattle.vecmap_map.specs.{Contents.Contents, Entry.{AreEntriesWith, entry_index_of, entry_key, entry_map}, MapBulk.Puts};
@@ -130,9 +131,8 @@ pub fn insertions_at_an_index_are_found<K: Eq, V>()
 /// Collecting some pairs and extending the map by one more is the same as collecting the longer list.
 ///
 /// The clauses of `try_collect`, `partition` and `unzip` require this of a collection.
-#[tactic(auto, using(crate::proofs::Puts::puts_append))]
 pub fn collecting_one_more_is_extending<K: Eq, V>()
     ensures { CollectsByExtend {A = K × V} {B = Contents K V}
-        (λ pairs map. map.entries ≡ puts K.eq [] pairs)
+        (λ pairs map. MakesPairs K.eq pairs map.entries)
         (λ old pairs new. Puts K.eq old pairs new × (old.capacity ≤ new.capacity)) }
 {}

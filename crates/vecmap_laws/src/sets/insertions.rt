@@ -2,7 +2,7 @@
 ghost use Rattle.std.specs.{Iterator.Runs.CollectsByExtend, List.IsDistinct, Option.option_or, Set.is_member};
 ghost use Rattle.std.specs.Prelude.{List, Some, [], false, if◌then◌else◌, length, option_map, slice_get, true, unwrap_or, ℕ, ◌++◌, ◌+◌, ◌<◌, ◌∷◌, ◌≡◌, ◌≤◌};
 ghost use Rattle.vecmap_base.specs.Items.{add, adds, item_index, only};
-ghost use Rattle.vecmap_set.specs.{Contents.Contents, SetBulk.Adds};
+ghost use Rattle.vecmap_set.specs.{Contents.Contents, SetBulk.{Adds, AddsItems}};
 
 /// An addition moves no element.
 ///
@@ -50,10 +50,9 @@ pub fn bulk_additions_move_nothing<T: Eq>()
 /// A collected set, extended by one more element, is the set that is collected from the longer list.
 ///
 /// The clauses of `try_collect`, `partition` and `unzip` require this of the collection.
-#[tactic(auto, using(crate::proofs::ItemAdditions::adds_append))]
 pub fn collecting_one_more_is_extending<T: Eq>()
     ensures { CollectsByExtend {A = T} {B = Contents T}
-        (λ items set. (set.elements ≡ adds T.eq [] items) × IsDistinct T.eq set.elements)
+        (λ items set. AddsItems T.eq [] items set.elements × IsDistinct T.eq set.elements)
         (λ old items new. Adds T.eq old items new × IsDistinct T.eq new.elements
         × (old.capacity ≤ new.capacity)) }
 {}
