@@ -1,3 +1,4 @@
+pub mod Editor
 pub mod HeaderLists
 pub mod Interner
 pub mod Options

@@ -3,6 +3,7 @@
 #![tactic(auto)]
 
 pub mod documents;
+pub mod editor;
 pub mod equivalent;
 pub mod filling;
 pub mod header_lists;

@@ -1,13 +1,14 @@
-//! Callers of removals: a closure of the caller, and a split that is undone.
+//! Callers of removals: a closure of the caller, the keys of another map, and a split that is undone.
 //!
 //! ```
-//! let mut map = vecmap!(alloc; 1 => 1, 2 => 9, 3 => 4, 4 => 6);
+//! let mut map = vecmap!(alloc; 1 => 1, 2 => 9, 3 => 4, 4 => 6, 5 => 7);
 //! keep_where(&mut map, |_key, value| *value < 8);
+//! drop_listed(&mut map, &vecmap!(alloc; 5 => true));
 //! split_and_append(&mut map, 1)?;
 //! map.as_slice() // [(1, 1), (3, 4), (4, 6)]
 //! ```
-ghost use Rattle.std.specs.Prelude.{◌≡◌, ◌≤◌, OnErr, OnOk, length};
-ghost use Rattle.vecmap.specs.{Asked.CallsAtPair, Kept.Kept, Pairs.HasDistinctKeys};
+ghost use Rattle.std.specs.Prelude.{◌≡◌, ◌≤◌, ℕ, None, OnErr, OnOk, if◌then◌else◌, is_some, length, nat_eq};
+ghost use Rattle.vecmap.specs.{Asked.CallsAtPair, Kept.Kept, Pairs.{HasDistinctKeys, lookup}};
 
 use std::alloc::AllocError;
 use vecmap::VecMap;
@@ -23,6 +24,16 @@ where
     ensures capacity { stock.new.capacity ≡ stock.old.capacity }
 {
     stock.retain(keep)
+}
+
+/// Removes the pairs whose keys another map has.
+pub fn drop_listed(stock: &mut VecMap<u32, u32>, listed: &VecMap<u32, bool>)
+    ensures { (key : ℕ) → lookup nat_eq stock.new.entries key
+        ≡ (if is_some (lookup nat_eq listed.now.entries key) then None
+        else lookup nat_eq stock.old.entries key) }
+{
+    laws::filters_keep_lookups::<u32, u32>();
+    stock.retain(|key, _value| !listed.contains_key(key));
 }
 
 /// Splits a map of distinct keys and appends the second part again, which restores the map.

@@ -1,5 +1,5 @@
 //! Callers that write each value of a map, and prove what they wrote: by `update_values` and `try_update_values`, or by
-//! a loop over the slice of `as_mut_slice`.
+//! a loop over the slice of `as_mut_slice`, and one that keeps a sum.
 //!
 //! ```
 //! let mut map = vecmap!(alloc; 1 => 5, 2 => 7);
@@ -10,14 +10,16 @@
 //! push_to_each(&mut lists, 1)?;
 //! push_in_slice(&mut lists, 2)?;
 //! lists[0].as_slice() // [1, 2]
+//! restock(&mut map, 2, 3)? // 9
 //! ```
-ghost use Rattle.std.specs.{Prelude.{◌≡◌, ◌+◌, ◌++◌, ◌∷◌, ◌-◌, ◌<◌, ◌^◌, OnErr, OnOk, [], map, min}, List.All, Map.keys_of};
+ghost use Rattle.std.specs.{Prelude.{◌≡◌, ◌+◌, ◌++◌, ◌∷◌, ◌-◌, ◌<◌, ◌^◌, IfOk, OnErr, OnOk, [], map, min, sum}, List.All, Map.{keys_of, values_of}};
 ghost use Rattle.vecmap.specs.Pairs.{map_values};
 ghost use Rattle.vecmap_callers.specs.Updating.{IsMappedInPart, lists_of};
 
 use std::alloc::AllocError;
 use vecmap::VecMap;
 use vecmap::map::MutableKeys;
+use vecmap_laws::maps::sums_follow_changes;
 
 /// Adds one to each value.
 ///
@@ -78,4 +80,17 @@ pub fn push_in_slice<K>(lists: &mut VecMap<K, Vec<u8>>, item: u8) -> Result<(), 
         list.push(item)?;
     }
     Ok(())
+}
+
+/// Sets the amount of an article, and returns the amount that it had, or 0.
+///
+/// # Errors
+///
+/// [`AllocError`] if allocation fails.
+pub fn restock(stock: &mut VecMap<u32, u32>, article: u32, amount: u32) -> Result<u32, AllocError>
+    ensures { IfOk result (λ old. sum (values_of stock.new.entries) + old
+        ≡ sum (values_of stock.old.entries) + amount) }
+{
+    sums_follow_changes::<u32, u32>();
+    Ok(stock.insert(article, amount)?.unwrap_or(0))
 }
