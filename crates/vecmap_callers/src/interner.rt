@@ -4,14 +4,14 @@
 //!
 //! ```
 //! let mut interner = Interner::new(alloc);
-//! let ids = intern_both(&mut interner, "to", "be")?;
-//! interner.intern("to")? // ids.0
+//! let to = interner.intern("to")?;
+//! interner.intern("be")? // TextId(1)
+//! interner.intern("to")? // TextId(0)
 //! interner.intern("or")? // TextId(2)
 //! interner.id_of_text("be") // Some(TextId(1))
-//! interner.resolve(ids.1) // Some("be")
+//! interner.resolve(to) // Some("to")
 //! ```
-ghost use Rattle.std.specs.Prelude.{◌≡◌, ◌<◌, ◌⊎◌, ℕ, IfOk, IsSome, List, OnErr, OnOk, Some, String, [], length, map, option_map, string_bytes};
-ghost use Rattle.std.specs.declared.alloc.Global.{Global};
+ghost use Rattle.std.specs.Prelude.{◌≡◌, ◌<◌, ℕ, IfOk, IsSome, List, OnErr, OnOk, Some, [], length, map, option_map, string_bytes};
 ghost use Rattle.vecmap_callers.specs.Interner.{id_of, text_of, with_text};
 
 use std::alloc::{AllocError, Global};
@@ -118,30 +118,4 @@ impl Interner {
         self.texts.insert(owned)?;
         Ok(id)
     }
-}
-
-/// Interns two texts. Equal texts get the same id, and the first id still means the first text afterwards.
-///
-/// # Errors
-///
-/// [`AllocError`] if allocation fails. If it fails for the second text, the first text is interned.
-pub fn intern_both(
-    interner: &mut Interner,
-    first: &str,
-    second: &str,
-) -> Result<(TextId, TextId), AllocError>
-    ensures first { IfOk result (λ ids. text_of interner.new ids.0.0 ≡ Some first.now) }
-    ensures second { IfOk result (λ ids. text_of interner.new ids.1.0 ≡ Some second.now) }
-    ensures equal_texts { IfOk result (λ ids. first.now ≡ second.now → ids.0.0 ≡ ids.1.0) }
-    ensures earlier { (id : ℕ) → id < length interner.old
-        → text_of interner.new id ≡ text_of interner.old id }
-    ensures texts { OnOk result ((between : List (String Global))
-        × (map string_bytes between ≡ with_text interner.old first.now)
-        × (map string_bytes interner.new ≡ with_text between second.now)) }
-    ensures err { OnErr result ((interner.new ≡ interner.old)
-        ⊎ (map string_bytes interner.new ≡ with_text interner.old first.now)) }
-{
-    let first_id = interner.intern(first)?;
-    let second_id = interner.intern(second)?;
-    Ok((first_id, second_id))
 }

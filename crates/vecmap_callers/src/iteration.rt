@@ -2,27 +2,17 @@
 //!
 //! ```
 //! let mut map = vecmap!(alloc; 1u64 => 3u32, 2 => 6, 4 => 6);
-//! keys_reversed(alloc, &map)?.as_slice() // [4, 2, 1]
 //! greatest(&map) // 6
 //! pull_keys(&map);
-//! add_one(&mut map);
-//! both_ends(&mut map) // (Some(4), Some(7))
-//! sum_of_values(map) // Some(18)
+//! both_ends(&mut map) // (Some(3), Some(6))
+//! sum_of_values(map) // Some(15)
 //! ```
-ghost use Rattle.std.specs.{List.All, Map.{keys_of, values_of}};
-ghost use Rattle.std.specs.Prelude.{◌≡◌, ◌<◌, ◌≤◌, ◌^◌, ◌∷◌, ℕ, IfOk, IfSome, List, None, Some, [], length, nat_eq, option_map, reverse, sum};
+ghost use Rattle.std.specs.Map.{values_of};
+ghost use Rattle.std.specs.Prelude.{◌≡◌, ◌≤◌, ◌^◌, ◌∷◌, ℕ, IfSome, List, None, Some, [], length, nat_eq, option_map, sum};
 ghost use Rattle.vecmap.specs.{Iterators.deref_mut, Pairs.lookup};
 ghost use Rattle.vecmap_laws.specs.Pulls.{Pulls, back, front};
 
-use std::alloc::{AllocError, Global};
 use vecmap::VecMap;
-
-/// Returns the keys, in reverse order.
-pub fn keys_reversed(alloc: Global, map: &VecMap<u64, u32>) -> Result<Vec<u64>, AllocError>
-    ensures { IfOk result (λ keys. keys.items ≡ reverse (keys_of map.now.entries)) }
-{
-    map.keys().rev().copied().collect(alloc)
-}
 
 /// Takes three keys from both ends of an iterator, copies it after the second, and calls it again past the end.
 pub fn pull_keys(map: &VecMap<u64, u32>)
@@ -65,17 +55,6 @@ pub fn sum_of_values(map: VecMap<u64, u32>) -> Option<u32>
         all = all.checked_add(value)?;
     }
     Some(all)
-}
-
-/// Adds one to each value. The loop yields the value that the map held when the loop began.
-pub fn add_one(map: &mut VecMap<u64, u32>)
-    requires { All (λ v. v < 100) (values_of map.old.entries) }
-    ensures len { length map.new.entries ≡ length map.old.entries }
-    ensures capacity { map.new.capacity ≡ map.old.capacity }
-{
-    for (_, value) in map.iter_mut() {
-        *value += 1;
-    }
 }
 
 // The value behind a mutable reference, if there is one.

@@ -5,7 +5,6 @@
 //! ```
 //! let mut table = Scopes::new(alloc)?;
 //! table.define('x', 1)?;
-//! resolved_within(&mut table, alloc, 'x', 2, &'x')? // Some(2)
 //! table.enter(alloc)?;
 //! table.define('x', 3)?;
 //! table.resolve(&'x') // Some(&3)
@@ -129,28 +128,5 @@ impl<K: Eq + Drop, V: Drop> Scopes<K, V> {
             }
         }
         None
-    }
-}
-
-/// Returns what a name means after another name is defined in a scope of its own. The table is unchanged.
-pub fn resolved_within<K: Eq + Drop, V: Copy + Drop>(
-    table: &mut Scopes<K, V>,
-    alloc: Global,
-    defined: K,
-    value: V,
-    name: &K,
-) -> Result<Option<V>, AllocError>
-    ensures value { IfOk result (λ found. found
-        ≡ (if K.eq defined name.now then Some value else resolved K.eq table.old name.now)) }
-    ensures unchanged { table.new ≡ table.old }
-{
-    table.enter(alloc)?;
-    let is_defined = table.define(defined, value).is_ok();
-    let found = table.resolve(name).copied();
-    table.leave();
-    if is_defined {
-        Ok(found)
-    } else {
-        Err(AllocError)
     }
 }
