@@ -1,7 +1,9 @@
 -- The lemmas of the rulesets of lookups and of members, at texts: `grind` sees the `==` of texts as it computes, so it
 -- matches a lemma that is stated of it, and not one of any `==`.
-use Rattle.std.specs.{String.string_eq_equiv, Cmp.nat_eq_equiv, Map.set_value, declared.alloc.Global.Global}
-use Rattle.std.proofs.Common.{rules, ◌≡◌, ℕ, Bool, String, List, None, Some, IsSome, IsTrue, bytes_eq, eqb-true, false, if◌then◌else◌, nat_eq, refl, string_eq, subst, true}
+use Rattle.std.specs.{String.string_eq_equiv, Borrow.Bor, Cmp.{Lexicographic.nat_list_eq_equiv, nat_eq_equiv, on_equiv}, Map.set_value, declared.alloc.Global.Global}
+use Rattle.std.specs.contracts.prelude.RefStrPartialEq.TheImpl.{eq-value}
+use Rattle.vecmap_base.specs.contracts.equivalent.RefStrEquivalent.TheImpl.{equivalent-value}
+use Rattle.std.proofs.Common.{rules, ◌≡◌, ◌∙◌, ℕ, Bool, String, List, None, Some, IsSome, IsTrue, bytes_eq, eqb-true, false, if◌then◌else◌, nat_eq, refl, string_eq, subst, sym, true}
 use Rattle.vecmap_base.specs.{Pairs.{HasDistinctKeys, has_text, lookup, lookup_by, put, without_by}, Equality.has_same_counts}
 use Rattle.vecmap_base.proofs.PairsLemmas.Updates.{updates_write}
 use Rattle.vecmap_laws.proofs.{Equations.put_put, MapEquality.lookups_of_equal, Lookups.lookup_without_apart, TextQueries.same_texts}
@@ -32,5 +34,17 @@ module _ {V : Type 0} (l : List (String Global × V)) (text : List ℕ) where
       by true e = subst (λ t. lookup_by (has_text t) (set_value (has_text other) l v) ≡ Some v) (same_texts other text e) (updates_write string_eq string_equality (has_text other) (text_respects other) l v some).own
       by false n = lookup_written_other_text (record { entries = l; capacity = 0 }) other text v n
 
+-- The same of keys `&str`. `grind` knows their `==`, and the test of a query, by the names of the impls.
+module _ {V : Type 0} (l : List (Bor (List ℕ) × V)) (text : List ℕ) where
+  pub str_put : (k : Bor (List ℕ)) (v : V) → lookup_by (λ b. bytes_eq text b.now) (put eq-value.it l k v) ≡ (if bytes_eq text k.now then Some v else lookup_by (λ b. bytes_eq text b.now) l)
+  str_put k v = lookup_put_any_query eq-value.it (on_equiv (λ (b : Bor (List ℕ)). b.now) nat_list_eq_equiv) (λ b. bytes_eq text b.now) (λ x y. nat_list_eq_equiv.congr text x.now y.now) l k v
+
+  pub str_without_other : (other : Bor (List ℕ)) → bytes_eq other.now text ≡ false → lookup_by (λ b. bytes_eq text b.now) (without_by (equivalent-value.it other) l) ≡ lookup_by (λ b. bytes_eq text b.now) l
+  str_without_other other n = lookup_without_apart (equivalent-value.it other) (λ b. bytes_eq text b.now) (λ k h. nat_list_eq_equiv.symm text k.now ∙ sym (nat_list_eq_equiv.congr other.now k.now text h) ∙ n) l
+
+-- Premises name two texts in either order.
+pub bytes_symm : (text other : List ℕ) → bytes_eq text other ≡ bytes_eq other text
+bytes_symm = nat_list_eq_equiv.symm
+
 -- What texts find after calls.
-pub ruleset texts = (text_put, text_without, text_set)
+pub ruleset texts = (text_put, text_without, text_set, str_put, str_without_other, bytes_symm)
