@@ -88,21 +88,13 @@ def block_form(item):
 
 
 def with_topics(path):
-    """Returns the text of a source. In a list of calls by topic at its head, calls, types and files are links."""
+    """Returns the text of a source. In a list of calls by topic at its head, calls and types are links."""
     text, kind = read(path), "".join(re.findall("^crates/vecmap/src/(map|set).rt$", path))
     head = re.match("(?://!.*\n)*", text)[0] if kind else ""
-    crate, own = f"vecmap_{kind}", f"Vec{kind.title()}"
-    owners = {it.name: owner_of(it) for it in functions(*sources(crate)) if it.is_call()} if kind else {}
-    owners |= {it: own for it in owners if re.search(rf"pub fn {it}\b", "".join(map(read, sources(crate))))}
-
-    def link(found):
-        if found[2]:
-            home = next(it for it in (crate, "vecmap_base") if os.path.exists(f"crates/{it}/src/{found[2]}"))
-            return f"[{found[0]}](../../src/{home}/{found[2]}.html)"
-        path = f"({owners[found[1]]}::{found[1]})" if found[1] in owners else ""
-        return f"[{found[0]}]{path}" if path or found[1] in text.removeprefix(head) else found[0]
-
-    return re.sub(r"`(?:(\w+)|(\S+\.rt))`", link, head) + text.removeprefix(head)
+    calls = {it.name: f"(Vec{kind.title()}::{it.name})" for it in functions(*sources(f"vecmap_{kind}")) if it.is_call()}
+    types = dict.fromkeys(re.findall(r"\b[A-Z]\w+", text.removeprefix(head)), "")
+    link = lambda it: f"[{it[0]}]{calls.get(it[1], types.get(it[1]))}" if it[1] in {*calls, *types} else it[0]
+    return re.sub(r"`(\w+)`", link, head) + text.removeprefix(head)
 
 
 def rust_of(path):

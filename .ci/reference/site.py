@@ -11,7 +11,7 @@ import urllib.parse
 
 from rattle import DEFINED, dependencies, files, kit, read, run, sources, specs, write
 from reference.contracts import BLOCKS, FAULTS
-from reference.forms import ALSO, definition_form, definitions_of_std, doc, found_by, rust_of
+from reference.forms import definition_form, definitions_of_std, doc, found_by, rust_of
 from reference.names import rows
 
 HERE = os.path.dirname(os.path.abspath(__file__))
@@ -201,8 +201,7 @@ def make(work, out):
         write(page, text.replace("a=Number(aai.ty);", f"{sides}if(a!==b){{return a-b;}}a=Number(aai.ty);"))
     # Nobody else can name the trait `Predicate`.
     lost = [f"{it.where} is not on the site" for it in BLOCKS if not it.place and not it.title.startswith("Predicate")]
-    words = " ".join(f"'{it}'" for some in ALSO.values() for it in some.split())
-    asked = run(f"node '{HERE}/search.js' {out} {words}").stdout.splitlines() if shutil.which("node") else []
+    asked = run(f"node '{HERE}/search.js' {out}").stdout.splitlines() if shutil.which("node") else []
     return [*FAULTS, *lost, *asked, *link_faults(texts, out), *picture_faults(texts["vecmap/struct.VecMap.html"])]
 
 
