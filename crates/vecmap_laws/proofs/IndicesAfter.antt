@@ -1,4 +1,4 @@
--- At which index a key is found after a removal, and in the front of the list.
+-- At which index a key is found in the front of a list.
 use Rattle.std.proofs.Common.{◌≡◌, ℕ, Bool, List, ap, sym, take, ◌∙◌}
 use Rattle.vecmap_base.{proofs.PairsLemmas.ByIndex.index_by_is, specs.Pairs.index_by}
 use Rattle.vecmap_laws.{specs.Removals.below, proofs.ItemsAfter.position_take}

@@ -1,4 +1,4 @@
--- Which elements a set has after a removal, in its front and in another order, and at which indices.
+-- At which index an item is found in the front of a list.
 use Rattle.std.proofs.Common.{arith, ◌≡◌, ℕ, suc, zero, Bool, List, [], ◌∷◌, option_map, position, take}
 use Rattle.vecmap_base.proofs.IndexLemmas.{position_cons}
 use Rattle.vecmap_laws.specs.Removals.{below}
