@@ -68,7 +68,7 @@ def sentence(formula, about):
     name, *arguments = WORD.findall(formula)
     told, text = about(name)
     names = parameters(name, text) if told else []
-    is_phrase = re.match("`|that |What |[Tt]he same\b|[Ww]here |The capacity after ", told)
+    is_phrase = re.match(r"`|that |What |[Tt]he same\b|[Ww]here |The capacity after ", told)
     if not told or is_phrase or len(names) != len(arguments):
         return ""
     letters = (it for it in re.findall("`([b-z])`", told) if it not in names)
@@ -188,20 +188,23 @@ class Names:
         target = f' href="@contracts#{label}" title="{meaning}"' if meaning else ""
         return f'{opening[0][: -len(label)]}<a class="label" id="@{place}"{target}>{label}</a>{rest}'
 
-    def fields(self, formula, above=""):
+    def fields(self, formula, above="", shared={}):
         """Returns of each field of a record if it says what a whole value is, its line, and its own fields."""
         name, *arguments = WORD.findall(inner(formula)) or [""]
         path, found = self.target(name), []
         text, file = definition(path)[1], file_of(path)
         _, is_record, own = text.partition(f"pub record {name} ")
-        given = dict(zip(parameters(name, text), arguments)) if is_record else {}
-        if is_record and len(given) == len(arguments):
+        names = parameters(name, text) if is_record and path[:5] != "std::" else []
+        if unsaid := len(names) - len(arguments):  # Within a module its parameters are not written.
+            arguments = [*map(shared.get, names[:unsaid]), *arguments]
+        if names and len(names) == len(arguments) and None not in arguments:
+            given = dict(zip(names, arguments))
             leads = {it: self.leads[it] for it in NAME.findall(formula) if it in self.leads}
             names = Names(file, self.where, text, " ".join([formula, *self.known]), leads)
             for label, told, comment in FIELD.findall(own.partition(" where\n")[2]):
                 line = comment or f"{above}{label} : {TOKEN.sub(names.token, put_in(told, given))}"
                 is_whole = bool(match := WHOLE.fullmatch(told)) and match[1] in given
-                below = names.fields(put_in(told, given), f"{above}{label}.") if told else []
+                below = names.fields(put_in(told, given), f"{above}{label}.", given) if told else []
                 found.append((is_whole, line, below))
         return found
 
