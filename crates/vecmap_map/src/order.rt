@@ -36,6 +36,10 @@ impl<K, V> VecMap<K, V> {
     ///
     /// `a` and `b` are less than [`VecMap::len`].
     ///
+    /// # Complexity
+    ///
+    /// One swap.
+    ///
     /// # Examples
     ///
     /// ```

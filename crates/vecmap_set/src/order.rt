@@ -37,6 +37,10 @@ impl<T: Eq> VecSet<T> {
     ///
     /// `a` and `b` are less than [`VecSet::len`].
     ///
+    /// # Complexity
+    ///
+    /// One swap.
+    ///
     /// # Examples
     ///
     /// ```
