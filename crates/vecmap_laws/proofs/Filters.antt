@@ -1,9 +1,9 @@
 -- What lookups find in the pairs that pass a test.
-use Rattle.std.proofs.Common.{◌≡◌, ◌∙◌, ℕ, Bool, true, false, List, [], ◌∷◌, None, Some, ap, eqb-true, filter, if◌then◌else◌, nat_eq, option_map, refl, sym}
+use Rattle.std.proofs.Common.{◌≡◌, ◌∙◌, Bool, true, false, List, [], ◌∷◌, None, Some, ap, filter, if◌then◌else◌, refl, sym}
 use Rattle.std.proofs.lemmas.Map.Entries.{lookup-filter-keys}
-use Rattle.std.specs.{Cmp.IsEquivalence, Cmp.nat_eq_equiv, Option.option_and_then}
-use Rattle.vecmap_base.specs.Pairs.{HasDistinctKeys, lookup, map_values}
-use Rattle.vecmap_laws.proofs.{EachValue.lookup_map_values, HeadLemmas.{head_has_no_value, rest_is_distinct}, Lookups.lookup_congr}
+use Rattle.std.specs.{Cmp.IsEquivalence, Option.option_and_then}
+use Rattle.vecmap_base.specs.Pairs.{HasDistinctKeys, lookup}
+use Rattle.vecmap_laws.proofs.{HeadLemmas.{head_has_no_value, rest_is_distinct}, Lookups.lookup_congr}
 
 module _ {K V : Type 0} (eq : K → K → Bool) (o : IsEquivalence eq) where
   -- A test of the keys.
@@ -23,12 +23,3 @@ module _ {K V : Type 0} (eq : K → K → Bool) (o : IsEquivalence eq) where
           rest ∙ ap (option_and_then (λ v. if test (q, v) then Some v else None)) none ∙ sym (ap (λ b. if b then Some p.1 else None) (same q p.0 p.1 e ∙ f))
       by false true e f rest = ap (λ b. if b then Some p.1 else lookup eq (filter test ps) q) e ∙ rest
       by false false e f rest = rest
-
--- The same at numbers, whose `==` no test tells apart.
-module _ {V : Type 0} (test : ℕ × V → Bool) (l : List (ℕ × V)) where
-  pub lookup_filter_of_numbers : HasDistinctKeys nat_eq l → (q : ℕ) → lookup nat_eq (filter test l) q ≡ option_and_then (λ v. if test (q, v) then Some v else None) (lookup nat_eq l q)
-  lookup_filter_of_numbers = lookup_filter nat_eq nat_eq_equiv test (λ x y v e. ap (λ k. test (k, v)) (eqb-true x y e)) l
-
--- What a lookup finds in the list with `g` of each value.
-pub lookup_map_values_of_numbers : {V W : Type 0} (g : V → W) (l : List (ℕ × V)) (k : ℕ) → lookup nat_eq (map_values g l) k ≡ option_map g (lookup nat_eq l k)
-lookup_map_values_of_numbers = lookup_map_values nat_eq

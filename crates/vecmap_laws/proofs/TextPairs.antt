@@ -1,12 +1,9 @@
 -- Queries of two parts, for keys of two parts, as two texts for two strings.
-use Rattle.std.specs.{Cmp.{IsEquivalence, and_equiv, on_equiv}, Map.IsKeyTest, declared.alloc.Global.Global}
-use Rattle.std.proofs.{Common.{◌≡◌, ◌∙◌, ◌&&◌, ℕ, Bool, List, None, Some, String, ap, bytes_eq, false, if◌then◌else◌, refl, string_bytes, string_eq, true}, lemmas.Bool.and_parts}
-use Rattle.vecmap_base.specs.Pairs.{HasDistinctKeys, has_text, lookup_by, put, without_by}
+use Rattle.std.specs.{Map.IsKeyTest, declared.alloc.Global.Global}
+use Rattle.std.proofs.{Common.{◌≡◌, ◌∙◌, ◌&&◌, ℕ, Bool, List, String, ap, bytes_eq, false, refl, string_bytes, string_eq, true}, lemmas.Bool.and_parts}
+use Rattle.vecmap_base.specs.Pairs.{has_text}
 use Rattle.vecmap_laws.specs.TextPairs.{both_equal, has_texts}
-use Rattle.vecmap_laws.proofs.{Queries.{lookup_put_any_query, lookup_without_query, same_text, string_equality, text_respects}, WriteLemmas.texts_apart}
-
-both_equality : IsEquivalence both_equal
-both_equality = and_equiv (on_equiv (λ x. x.0) string_equality) (on_equiv (λ x. x.1) string_equality)
+use Rattle.vecmap_laws.proofs.{Queries.{same_text, text_respects}, WriteLemmas.texts_apart}
 
 -- A query of two parts matches a key and its equals alone, if each part does.
 pub parts_respect : {A B : Type 0} (a : A → A → Bool) (b : B → B → Bool) (f : A → Bool) (g : B → Bool) → IsKeyTest a f → IsKeyTest b g → IsKeyTest {K = A × B} (λ x y. a x.0 y.0 && b x.1 y.1) (λ x. f x.0 && g x.1)
@@ -32,10 +29,3 @@ text_pairs_apart first second third fourth n k h = by (bytes_eq first third) ref
     by : (b : Bool) → bytes_eq first third ≡ b → (b && bytes_eq second fourth) ≡ false → has_texts third fourth k ≡ false
     by true e m = ap (λ b. has_text third k.0 && b) (texts_apart second fourth m k.1 both.1) ∙ without (has_text third k.0)
     by false e m = ap (λ b. b && has_text fourth k.1) (texts_apart first third e k.0 both.0)
-
-module _ {V : Type 0} (l : List ((String Global × String Global) × V)) (first second : List ℕ) where
-  pub text_pair_put : (k : String Global × String Global) (v : V) → lookup_by (has_texts first second) (put both_equal l k v) ≡ (if has_texts first second k then Some v else lookup_by (has_texts first second) l)
-  text_pair_put k v = lookup_put_any_query both_equal both_equality (has_texts first second) (texts_respect first second) l k v
-
-  pub text_pair_without : HasDistinctKeys both_equal l → lookup_by (has_texts first second) (without_by (has_texts first second) l) ≡ None
-  text_pair_without d = lookup_without_query both_equal both_equality (has_texts first second) (texts_respect first second) l d
