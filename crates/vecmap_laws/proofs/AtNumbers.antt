@@ -5,13 +5,13 @@ use Rattle.std.proofs.Common.{◌≡◌, ◌∙◌, ◌++◌, ◌∷◌, ◌<◌
 use Rattle.std.proofs.lemmas.Grind.{common_steps}
 use Rattle.std.specs.Prelude.{nat_lt}
 use Rattle.vecmap_base.specs.{Items.{add, adds, swap_without_item, without_item}, Equality.has_same_counts}
-use Rattle.vecmap_base.specs.Pairs.{HasDistinctKeys, index_of, index_or_length, lookup, put, put_at, put_key, puts, swap_without_key, value_at, without_key}
+use Rattle.vecmap_base.specs.Pairs.{HasDistinctKeys, index_of, index_or_length, lookup, put, put_at, put_key, puts, swap_without_key, value_at, with_value, without_key}
 use Rattle.vecmap_base.proofs.PairsLemmas.ByIndex.{index_by_is, lookup_by_index}
 use Rattle.vecmap_laws.proofs.{AfterPuts.{index_of_without_key, lookup_put_any, lookup_puts_distinct, lookup_without_any}, DistinctParts.distinct_keys_drop}
 use Rattle.vecmap_laws.proofs.DistinctKeys.{distinct_keys_swap_without_key, distinct_keys_take, distinct_put, distinct_put_at, distinct_put_key, distinct_puts}
 use Rattle.vecmap_laws.proofs.{Equations.put_put, ItemMembers.{is_member_add, is_member_adds}, MapEquality.lookups_of_equal}
 use Rattle.vecmap_laws.proofs.Finds.{distinct_keys_reverse, distinct_swapped, distinct_without_key, is_member_swap_without, is_member_without, lookup_drop, lookup_put_at_any, lookup_put_key_any, lookup_reverse, lookup_swap, lookup_swap_without_key, lookup_swapped, lookup_take, present}
-use Rattle.vecmap_laws.proofs.{Lookups.{lookup_without_key, lookup_without_key_other}, NewKeys.absent_among, OtherPairs.{put_back, without_absent}, Puts.puts_restore, RemovalLemmas.passing_at}
+use Rattle.vecmap_laws.proofs.{Lookups.{lookup_without_key, lookup_without_key_other}, NewKeys.absent_among, OtherPairs.{put_back, without_absent}, Puts.puts_restore, RemovalLemmas.passing_at, WriteLemmas.lookup_written_at}
 
 module _ {V : Type 0} where
   pub lookup_put_of_numbers : (l : List (ℕ × V)) (k : ℕ) (v : V) (q : ℕ) → lookup nat_eq (put nat_eq l k v) q ≡ (if nat_eq k q then Some v else lookup nat_eq l q)
@@ -66,6 +66,10 @@ module _ {V : Type 0} where
       let value : Some v ≡ value_at l i = sym is ∙ lookup_by_index (nat_eq k) l ∙ ap (option_and_then (value_at l)) at in
       let there : slice_get l i ≡ Some (k, v) = grind (arith, common_steps, value, stored.1, eqb-true k stored.0.0 stored.2) in
       put_back nat_eq l (without_key nat_eq l k) i k v at there (without_absent nat_eq (without_key nat_eq l k) k (index_of_without_key nat_eq nat_eq_equiv l k d))
+
+  -- After a write at an index, other keys find what they found before.
+  pub lookup_written_at_of_numbers : (l : List (ℕ × V)) (i : ℕ) (v : V) (p : ℕ × V) (q : ℕ) → slice_get l i ≡ Some p → nat_eq p.0 q ≡ false → lookup nat_eq (with_value l i v) q ≡ lookup nat_eq l q
+  lookup_written_at_of_numbers = lookup_written_at nat_eq nat_eq_equiv
 
   pub puts_restore_of_numbers : (l : List (ℕ × V)) (n : ℕ) → HasDistinctKeys nat_eq l → puts nat_eq (take n l) (drop n l) ≡ l
   puts_restore_of_numbers = puts_restore nat_eq nat_eq_equiv

@@ -35,6 +35,7 @@ pub mod Keys
 pub use Rattle.vecmap_set.proofs.LazyLemmas
 pub mod Lookups
 pub mod LoopLemmas
+pub mod LoopPairs
 pub mod MapEquality
 pub use Rattle.vecmap_set.proofs.OperatorLemmas
 pub mod Order

@@ -4,7 +4,7 @@ use Rattle.std.proofs.{Common.{subst, sym}, lemmas.Map.Steps.lookup-le-sum}
 use Rattle.vecmap_base.specs.Pairs.{HasDistinctKeys}
 use Rattle.vecmap_base.proofs.{DistinctLemmas.Absent.distinct_none, DistinctLemmas.Additions.{distinct_add, distinct_adds}}
 use Rattle.vecmap_base.proofs.PairsLemmas.Keys.{keys_of_put, keys_of_puts}
-use Rattle.vecmap_laws.proofs.{AlgebraLemmas.is_member_of_collected, AtNumbers.{absent_among_numbers, lookups_of_equal_numbers, put_put_of_numbers, restored_of_numbers}}
+use Rattle.vecmap_laws.proofs.{AlgebraLemmas.is_member_of_collected, AtNumbers.{absent_among_numbers, lookup_written_at_of_numbers, lookups_of_equal_numbers, put_put_of_numbers, restored_of_numbers}}
 use Rattle.vecmap_laws.proofs.AfterPuts.{index_of_congr, index_of_put, lookup_put_any, lookup_puts_distinct, lookup_without_any}
 use Rattle.vecmap_laws.proofs.{AtTexts.{lookups_of_equal_texts, put_put_of_texts}, DistinctParts.{distinct_keys_drop, distinct_keys_filter}}
 pub use Rattle.vecmap_laws.proofs.AtNumbers.{lookups_at_numbers, members_at_numbers}
@@ -15,6 +15,8 @@ use Rattle.vecmap_laws.proofs.DistinctKeys.{distinct_keys_remove, distinct_keys_
 use Rattle.vecmap_laws.proofs.{EachPair.{all_without, filter_without, nothing_written, same_values}, EachValue.holds_after_put, Puts.puts_restore}
 use Rattle.vecmap_laws.proofs.{NewKeys.{absent_among, absent_before, new_above}, ItemMembers.{is_member_add, is_member_adds}, IndicesAfter.index_by_take}
 use Rattle.vecmap_laws.proofs.Finds.{distinct_keys_reverse, distinct_swapped, distinct_without_key, is_member_swap_without, is_member_without, lookup_drop, lookup_put_at_any, lookup_put_key_any, lookup_reverse, lookup_swap, lookup_swap_without_key, lookup_swapped, lookup_take, present}
+use Rattle.vecmap_laws.proofs.LoopPairs.{element_taken, is_key_of_numbers, key_taken, number_taken, taken_matches}
+use Rattle.vecmap_laws.proofs.{SetRelations.length_both_only, Sums.{sum_put_of_numbers, sum_without_of_numbers}, Undone.undone_at_numbers}
 use Rattle.vecmap_laws.proofs.{LoopLemmas.{key_stays, keys_written}, Lookups.lookup_without_key_other, Queries.lookup_put_any_query, ItemIndices.{item_index_add, slice_get_add}}
 
 -- An empty list has no two equal keys.
@@ -104,6 +106,18 @@ pub ruleset equal_at_numbers = (lookups_of_equal_numbers)
 
 pub ruleset equal_at_texts = (lookups_of_equal_texts)
 
+-- After a write at an index.
+pub ruleset written_at_numbers = (lookup_written_at_of_numbers)
+
+-- The item that a loop over an iterator takes.
+pub ruleset in_loops = (element_taken, is_key_of_numbers, key_taken, number_taken, taken_matches)
+
+-- A change that is taken back, at numbers.
+pub ruleset undone = (undone_at_numbers)
+
+-- The sum of the values after a change.
+pub ruleset sums = (sum_put_of_numbers, sum_without_of_numbers)
+
 -- The lists above in one, for a whole crate. Of `sorted` and `clones` it has only the lists at numbers, and of `puts` only
 -- those at numbers and at texts.
-pub ruleset common = (new_keys, each, equal_at_numbers, equal_at_texts, sorted_at_numbers, puts_at_numbers, puts_at_texts, clones_at_numbers, lookups, members, lookup_put_any_query, collected, distinct, distinct_elements, elements, indices, keys, keys_in_loops, texts)
+pub ruleset common = (new_keys, each, equal_at_numbers, equal_at_texts, sorted_at_numbers, puts_at_numbers, puts_at_texts, clones_at_numbers, lookups, members, lookup_put_any_query, collected, distinct, distinct_elements, elements, indices, keys, keys_in_loops, texts, in_loops, undone, sums, written_at_numbers, length_both_only)

@@ -1,10 +1,10 @@
 -- A write of the value that a key or a query finds, and what lookups find after it. The idea: the write is `put` of any
 -- key that the query matches, so the lemmas on `put` hold.
 use Rattle.std.specs.{Cmp.{IsEquivalence, Lexicographic.nat_list_eq_equiv}, declared.alloc.Global.Global}
-use Rattle.std.specs.Map.{IsKeyTest, set_value}
-use Rattle.std.proofs.Common.{arith, ◌≡◌, ℕ, Bool, List, [], ◌∷◌, Some, IsSome, true, ap, refl, sym, ◌∙◌, false, IsTrue, bytes_eq}
-use Rattle.std.proofs.{Common.{string_bytes, string_eq, String, subst, if◌then◌else◌}, lemmas.Map.Steps.set_value_same}
-use Rattle.vecmap_base.specs.Pairs.{index_of, put, has_text, index_by, lookup_by}
+use Rattle.std.specs.{Map.{IsKeyTest, set_value}, Option.option_map_or}
+use Rattle.std.proofs.Common.{arith, ◌≡◌, ℕ, suc, zero, slice_get, slice_set, Bool, List, [], ◌∷◌, Some, IsSome, true, ap, refl, sym, ◌∙◌, false, IsTrue, bytes_eq}
+use Rattle.std.proofs.{Common.{string_bytes, string_eq, String, subst, if◌then◌else◌}, lemmas.{Map.Steps.set_value_same, Option.{none-some, same_Some}}}
+use Rattle.vecmap_base.specs.Pairs.{index_of, put, has_text, index_by, lookup, lookup_by, with_value}
 use Rattle.vecmap_base.proofs.PairsLemmas.{ByIndex.{put_by_index, set_value_by_index, is_some_lookup_by}, Updates.updates_write}
 use Rattle.vecmap_map.specs.Contents.{Contents, with_entries, with_value_of, with_value_by}
 use Rattle.vecmap_laws.proofs.{ItemQueries.tells_as, Queries.{string_equality, text_respects}}
@@ -50,3 +50,13 @@ module _ {V : Type 0} where
   -- After a write by a text, other texts find what they found before.
   pub lookup_written_other_text : (m : Contents (String Global) V) (text other : List ℕ) (v : V) → bytes_eq text other ≡ false → lookup_by (has_text other) (with_value_by (has_text text) m v).entries ≡ lookup_by (has_text other) m.entries
   lookup_written_other_text m text other v n = lookup_written_other_query string_eq string_equality (has_text text) (text_respects text) (has_text other) (text_respects other) (texts_apart text other n) m v
+
+module _ {K V : Type 0} (eq : K → K → Bool) where
+  lookup_set_other : (l : List (K × V)) (i : ℕ) (v : V) (p : K × V) (q : K) → slice_get l i ≡ Some p → eq q p.0 ≡ false → lookup eq (slice_set l i (p.0, v)) q ≡ lookup eq l q
+  lookup_set_other [] i v p q at n = absurd (none-some p at)
+  lookup_set_other (x ∷ xs) zero v p q at n = grind (arith, same_Some)
+  lookup_set_other (x ∷ xs) (suc i) v p q at n = ap (λ found. if eq q x.0 then Some x.1 else found) (lookup_set_other xs i v p q at n)
+
+  -- After a write at an index, other keys find what they found before.
+  pub lookup_written_at : IsEquivalence eq → (l : List (K × V)) (i : ℕ) (v : V) (p : K × V) (q : K) → slice_get l i ≡ Some p → eq p.0 q ≡ false → lookup eq (with_value l i v) q ≡ lookup eq l q
+  lookup_written_at o l i v p q at n = ap (λ found. lookup eq (option_map_or (λ x. slice_set l i (x.0, v)) found l) q) at ∙ lookup_set_other l i v p q at (o.symm q p.0 ∙ n)
