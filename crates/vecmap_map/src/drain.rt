@@ -19,7 +19,7 @@ impl<K, V> VecMap<K, V> {
     ///
     /// The iterator yields the pairs in order, from either end. `range` is any range of std, with inclusive, exclusive
     /// or open ends. Once the iterator is dropped, after any number of calls of `next`, the whole range is gone. The
-    /// other pairs keep their order, and the capacity stays. If the iterator is leaked, as by `mem::forget`, no contract
+    /// other pairs keep their order, and the capacity stays. If the iterator is leaked, as by `mem::forget`, no clause
     /// says which pairs stay.
     ///
     /// # Preconditions

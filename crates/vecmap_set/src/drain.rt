@@ -19,8 +19,8 @@ impl<T: Eq> VecSet<T> {
     ///
     /// The iterator yields the elements in order, from either end. `range` is any range of std, with inclusive,
     /// exclusive or open ends. Once the iterator is dropped, after any number of calls of `next`, the whole range is
-    /// gone. The other elements keep their order, and the capacity stays. If the iterator is leaked, as by `mem::forget`,
-    /// no contract says which elements stay.
+    /// gone. The other elements keep their order, and the capacity stays. If the iterator is leaked, as by
+    /// `mem::forget`, no clause says which elements stay.
     ///
     /// # Preconditions
     ///
