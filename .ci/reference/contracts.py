@@ -34,7 +34,6 @@ OWN_WORDS = "_ Self self result where abbrev pub data record module".split()
 WORD = re.compile(r"\((?:[^()]|\((?:[^()]|\([^()]*\))*\))*\)(?:\.\w+)*|[^\s()]+")
 # What is said of a result before a clause that holds only if it has this form.
 RESULT = re.compile(r"(OnOk|IfOk|OnErr|IfErr|OnSome|IfSome) result (\(.*\))")
-PLAIN = {"IsOk result": "The call returns `Ok`", "IsTrue result": "The result is `true`"}
 FAULTS, BLOCKS = [], []
 
 
@@ -99,16 +98,12 @@ def said(formula, about):
         is_said = all(parts) and len({*parts}) == len(parts) and ". " not in "".join(conditions)
         premise = "If {}, then ".format(" and ".join(map(lower, conditions))) if conditions else ""
         return premise + (lower(last) if premise else last) if is_said else ""
-    if " ↔ " in formula:
-        one, other = (said(it, about) for it in split(formula, "↔"))
-        return f"{one} exactly if {lower(other)}" if one and other else ""
-    for sign, word in (("≡", "is"), ("<", "is below"), ("≤", "is at most")):
-        left, *right = split(formula, sign)
-        if len(right) == 1 and not re.search("[λ×⊎]", formula):
-            value, form = sentence(right[0], about), "`({})`" if ", " in right[0] else "`{}`"
-            value = lower(value) if value.startswith("The ") else form.format(right[0])
-            return f"{'The result' if left == 'result' else f'`{left}`'} {word} {value}"
-    return PLAIN.get(formula) or sentence(bare(formula.removeprefix("sem 𝓛 ")), about)
+    left, *right = split(formula, "≡")
+    if len(right) == 1 and not re.search("[λ×⊎]", formula):
+        value = sentence(right[0], about)
+        value = lower(value) if value.startswith("The ") else f"`{right[0]}`"
+        return f"{'The result' if left == 'result' else f'`{left}`'} is {value}"
+    return "The call returns `Ok`" if formula == "IsOk result" else sentence(bare(formula.removeprefix("sem 𝓛 ")), about)
 
 
 def inner(formula):
