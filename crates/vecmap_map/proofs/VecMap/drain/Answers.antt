@@ -1,4 +1,4 @@
-use Rattle.std.proofs.{Common.{arith, take}, lemmas.{Grind.common_steps, List.drop_all}}
+use Rattle.std.proofs.{Common.arith, lemmas.{Grind.common_steps, List.drop_all}}
 use Rattle.vecmap_base.proofs.PairsLemmas.Parts.{keeps_front_of}
 use Rattle.vecmap_map.proofs.VecMap.drain.Goals as goal
 

@@ -1,4 +1,4 @@
-use Rattle.std.proofs.{Common.{arith, take}, lemmas.{Grind.common_steps, List.drop_all}}
+use Rattle.std.proofs.{Common.arith, lemmas.{Grind.common_steps, List.drop_all}}
 use Rattle.vecmap_set.proofs.RemovalLemmas.{keeps_front_items}
 use Rattle.vecmap_set.proofs.VecSet.drain.Goals as goal
 
