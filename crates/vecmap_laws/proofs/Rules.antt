@@ -16,7 +16,7 @@ use Rattle.vecmap_laws.proofs.{EachPair.{all_without, filter_without, nothing_wr
 use Rattle.vecmap_laws.proofs.{NewKeys.{absent_among, absent_before, new_above}, ItemMembers.{is_member_add, is_member_adds}, IndicesAfter.index_by_take}
 use Rattle.vecmap_laws.proofs.Finds.{distinct_keys_reverse, distinct_swapped, distinct_without_key, is_member_swap_without, is_member_without, lookup_drop, lookup_put_at_any, lookup_put_key_any, lookup_reverse, lookup_swap, lookup_swap_without_key, lookup_swapped, lookup_take, present}
 use Rattle.vecmap_laws.proofs.LoopPairs.{element_taken, is_key_of_numbers, key_taken, number_taken, taken_matches}
-use Rattle.vecmap_laws.proofs.{SetRelations.length_both_only, Sums.{sum_put_of_numbers, sum_without_of_numbers}, Undone.undone_at_numbers}
+use Rattle.vecmap_laws.proofs.{SetRelations.number_parts_add, Sums.{sum_put_of_numbers, sum_without_of_numbers}, Undone.undone_at_numbers}
 use Rattle.vecmap_laws.proofs.{LoopLemmas.{key_stays, keys_written}, Lookups.lookup_without_key_other, Queries.lookup_put_any_query, ItemIndices.{item_index_add, slice_get_add}}
 
 -- An empty list has no two equal keys.
@@ -120,4 +120,4 @@ pub ruleset sums = (sum_put_of_numbers, sum_without_of_numbers)
 
 -- The lists above in one, for a whole crate. Of `sorted` and `clones` it has only the lists at numbers, and of `puts` only
 -- those at numbers and at texts.
-pub ruleset common = (new_keys, each, equal_at_numbers, equal_at_texts, sorted_at_numbers, puts_at_numbers, puts_at_texts, clones_at_numbers, lookups, members, lookup_put_any_query, collected, distinct, distinct_elements, elements, indices, keys, keys_in_loops, texts, in_loops, undone, sums, written_at_numbers, length_both_only)
+pub ruleset common = (new_keys, each, equal_at_numbers, equal_at_texts, sorted_at_numbers, puts_at_numbers, puts_at_texts, clones_at_numbers, lookups, members, lookup_put_any_query, collected, distinct, distinct_elements, elements, indices, keys, keys_in_loops, texts, in_loops, undone, sums, written_at_numbers, number_parts_add)

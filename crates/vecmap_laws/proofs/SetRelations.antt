@@ -1,7 +1,7 @@
 -- The elements that are in both of two lists, and those that are in only one of them.
-use Rattle.std.specs.{Prelude.{◌≡◌, ◌+◌, Bool, true, ◌||◌, not, List, ◌++◌, length, refl}, Cmp.IsEquivalence, List.IsDistinct}
+use Rattle.std.specs.{Prelude.{◌≡◌, ◌+◌, ℕ, nat_eq, Bool, true, ◌||◌, not, List, ◌++◌, length, refl}, Cmp.{IsEquivalence, nat_eq_equiv}, List.{AllZip, IsDistinct}}
 use Rattle.std.{specs.Set.is_member, proofs.{Common.{sym, ◌∙◌, arith, length-append}, Math.Bool.{and_comm, or_comm}}}
-use Rattle.std.proofs.lemmas.{List.{Filters.length-filter_both, Folds.list_any-append}, Map.Made.length-from_same_keys}
+use Rattle.std.proofs.lemmas.{List.{Elements.length_all_zip, Filters.length-filter_both, Folds.list_any-append}, Map.Made.length-from_same_keys}
 use Rattle.vecmap_base.specs.{Equality.has_same_items, Items.{both, only}}
 use Rattle.vecmap_set.proofs.OperatorLemmas.{is_member_union as member_of_union}
 pub use Rattle.vecmap_base.proofs.EqualityLemmas.Sets.{same_items}
@@ -31,3 +31,7 @@ module _ {T : Type 0} (eq : T → T → Bool) (o : IsEquivalence eq) where
   -- The lengths of the union and of the list of common elements add up to the lengths of the two lists.
   pub length_union : (a b : List T) → IsDistinct eq a → IsDistinct eq b → length (a ++ only eq b a) + length (both eq a b) ≡ length a + length b
   length_union a b d e = omega (arith, length-append a (only eq b a), length_both_turned a b d e, length_both_only b a)
+
+-- Clones of the common elements and of the others are as many as all elements.
+pub number_parts_add : (is_clone : ℕ → ℕ → Type 0) (a b s t : List ℕ) → AllZip is_clone (both nat_eq a b) s → AllZip is_clone (only nat_eq a b) t → length s + length t ≡ length a
+number_parts_add is_clone a b s t e f = omega (arith, length_all_zip is_clone (both nat_eq a b) s e, length_all_zip is_clone (only nat_eq a b) t f, length_both_only nat_eq nat_eq_equiv a b)
