@@ -2,9 +2,9 @@
 //!
 //! An entry holds the map, the key that was passed to `entry`, and the index of that key. A clause `writes_back` says
 //! what the map is once the returned reference has ended.
-ghost use Rattle.std.specs.Prelude.{◌≡◌, ◌<◌, ◌^◌, ◌⊎◌, Err, IfErr, IfOk, IfSome, None, Ok, OnErr, Some, length, unwrap_or};
+ghost use Rattle.std.specs.Prelude.{◌≡◌, ◌<◌, ◌^◌, ◌⊎◌, Err, IfErr, IfOk, IfSome, List, None, Ok, OnErr, Some, length, unwrap_or};
 ghost use Rattle.std.specs.{Borrow.{Bor, MutBor, sem}, Fn.FnOnceReturnsAt, Map.Calls.ModifiesValue, Option.{UnwrapsOrElse, option_map_or}};
-ghost use Rattle.vecmap_base.specs.{Insertions.AddsKey, Pairs.{index_of, lookup}, Removals.{RemovesBy, SwapRemovesBy}};
+ghost use Rattle.vecmap_base.specs.{Insertions.SetsKey, Lookups.UpdatesBy, Pairs.{HasDistinctKeys, index_of, lookup}, Removals.{RemovesBy, SwapRemovesBy}};
 ghost use Rattle.vecmap_map.specs.Contents.{IsFull};
 
 mod occupied;
@@ -62,11 +62,16 @@ impl<K, V> VecMap<K, V> {
         ensures value { entry_value result ≡ lookup K.eq self.old.entries key }
 
         // What follows for lookups, lengths and indices.
-        ensures insertion { (v : V) → AddsKey K.eq self.old.entries key v
+        ensures insertion { (v : V) → SetsKey K.eq self.old.entries key v
             (entries_with result v) }
-        ensures removal { RemovesBy K.eq (K.eq key) self.old.entries (entries_without result) }
-        ensures swap_removal { SwapRemovesBy K.eq (K.eq key) self.old.entries
-            (entries_swap_without result) }
+        ensures without { HasDistinctKeys K.eq self.old.entries
+            → UpdatesBy K.eq (K.eq key) self.old.entries (entries_without result) None }
+        ensures swap_without { HasDistinctKeys K.eq self.old.entries
+            → UpdatesBy K.eq (K.eq key) self.old.entries (entries_swap_without result) None }
+        ensures removal { (m : List (K × V)) → m ≡ entries_without result
+            → RemovesBy K.eq (K.eq key) self.old.entries m }
+        ensures swap_removal { (m : List (K × V)) → m ≡ entries_swap_without result
+            → SwapRemovesBy K.eq (K.eq key) self.old.entries m }
     {
         Entry::over(self, key)
     }
