@@ -3,11 +3,9 @@
 import functools
 import re
 
+import rattle
 from rattle import DEFINED, crate_of, definitions, items, kit, read, sources, table_rows
 
-# An import: a tree of paths, as `A.{B.c, C.{d, e as f}}`, or a module under another name. Then a part of such a tree.
-IMPORT = re.compile(r"^(?: *ghost)? *(?:pub )?use ([\w.]+(?:\.\{(?:[^{}]|\{[^{}]*\})*\}| as \w+))", re.MULTILINE)
-PART = re.compile(r"([^\s,{}][^,{}]*)(?:\{((?:[^{}]|\{[^{}]*\})*)\})?")
 # The place that the logic has for a type of a program, or for its variants.
 DECLARED = re.compile(r"Rattle\.(\w+)\.specs\.declared\.(?:[a-z_]+\.)*([A-Z]\w*)(\.TheVariants)?")
 # By the path of each definition of the kit that has a page: its file, and itself; and the path by its file and names.
@@ -42,22 +40,15 @@ def fixed():
     return found
 
 
-def leaves(tree, above=""):
-    """Yields the leaves of an import: the name that each gets, the place that it is from, and its name there."""
-    for path, below in PART.findall(tree):
-        name, _, alias = f"{above}{path}".strip().partition(" as ")
-        place, _, name = name.rpartition(".")
-        yield from leaves(below, above + path) if below else [(alias or name, place, name)]
-
-
 def imports(path):
     """Yields what a file imports: the name there, the place that it is from, and its name there."""
-    for tree in IMPORT.findall(read(path)):
-        module, _, alias = tree.partition(" as ")
-        if "{" in tree:
-            yield from leaves(tree)
-        else:  # As in `entries.lookup`.
-            yield from ((f"{alias}.{it}", module, it) for it in re.findall(rf"\b{alias}\.([A-Za-z]\w*)", read(path)))
+    text = read(path)
+    for _, it in rattle.imports(path):
+        module, _, alias = it.partition(" as ")
+        place, _, name = module.rpartition(".")
+        yield alias or name, place, name
+        if alias:  # Of a module, as in `entries.lookup`.
+            yield from ((f"{alias}.{it}", module, it) for it in re.findall(rf"\b{alias}\.([A-Za-z]\w*)", text))
 
 
 @functools.cache
