@@ -8,9 +8,9 @@
 //! set_grade(&mut grades, (String::from_str(alloc, "Ada")?, String::from_str(alloc, "King")?), 1)?;
 //! (grade_of(&grades, "Ada", "King"), grade_of(&grades, "Ada", "Lee")) // (Some(1), None)
 //! ```
-ghost use Rattle.std.specs.{Prelude.{◌≡◌, ℕ, List, OnOk, Some, false, string_bytes}, Cmp.Lexicographic.nat_list_eq_equiv, Str.{str_eq_ignore_ascii_case, str_to_ascii_lowercase}};
-ghost use Rattle.vecmap.specs.Pairs.{lookup, lookup_by};
-ghost use Rattle.vecmap_laws.specs.TextPairs.{has_texts};
+ghost use Rattle.std.specs.{Prelude.{◌≡◌, ℕ, List, OnErr, OnOk, Some, false, string_bytes}, Cmp.Lexicographic.nat_list_eq_equiv, Str.{str_eq_ignore_ascii_case, str_to_ascii_lowercase}};
+ghost use Rattle.vecmap.specs.Pairs.{lookup, lookup_by, put};
+ghost use Rattle.vecmap_laws.specs.TextPairs.{both_equal, has_texts};
 
 pub use attr_doc::Name;
 use std::alloc::AllocError;
@@ -56,12 +56,15 @@ pub fn grade_of(grades: &VecMap<(String, String), u32>, first: &str, last: &str)
 ///
 /// # Errors
 ///
-/// [`AllocError`] if allocation fails.
+/// [`AllocError`] if allocation fails; the grades are then unchanged.
 pub fn set_grade(
     grades: &mut VecMap<(String, String), u32>,
     name: (String, String),
     grade: u32,
 ) -> Result<(), AllocError>
+    ensures entries { OnOk result (grades.new.entries
+        ≡ put both_equal grades.old.entries name grade) }
+    ensures err { OnErr result (grades.new ≡ grades.old) }
     ensures own { OnOk result (lookup_by
         (has_texts (string_bytes name.0) (string_bytes name.1)) grades.new.entries ≡ Some grade) }
     ensures others { (first last : List ℕ) → has_texts first last name ≡ false

@@ -7,7 +7,7 @@
 //! split_and_append(&mut map, 1)?;
 //! map.as_slice() // [(1, 1), (3, 4), (4, 6)]
 //! ```
-ghost use Rattle.std.specs.Prelude.{◌≡◌, ◌≤◌, ℕ, None, OnErr, OnOk, if◌then◌else◌, is_some, length, nat_eq};
+ghost use Rattle.std.specs.Prelude.{◌≡◌, ◌≤◌, ℕ, None, OnErr, OnOk, filter, if◌then◌else◌, is_some, length, nat_eq, not};
 ghost use Rattle.vecmap.specs.{Asked.CallsAtPair, Kept.Kept, Pairs.{HasDistinctKeys, lookup}};
 
 use std::alloc::AllocError;
@@ -28,7 +28,9 @@ where
 
 /// Removes the pairs whose keys another map has.
 pub fn drop_listed(stock: &mut VecMap<u32, u32>, listed: &VecMap<u32, bool>)
-    ensures { (key : ℕ) → lookup nat_eq stock.new.entries key
+    ensures entries { stock.new.entries ≡ filter
+        (λ p. not (is_some (lookup nat_eq listed.now.entries p.0))) stock.old.entries }
+    ensures lookups { (key : ℕ) → lookup nat_eq stock.new.entries key
         ≡ (if is_some (lookup nat_eq listed.now.entries key) then None
         else lookup nat_eq stock.old.entries key) }
 {

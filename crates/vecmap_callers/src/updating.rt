@@ -12,8 +12,8 @@
 //! lists[0].as_slice() // [1, 2]
 //! restock(&mut map, 2, 3)? // 9
 //! ```
-ghost use Rattle.std.specs.{Prelude.{◌≡◌, ◌+◌, ◌++◌, ◌∷◌, ◌-◌, ◌<◌, ◌^◌, IfOk, OnErr, OnOk, [], map, min, sum}, List.All, Map.{keys_of, values_of}};
-ghost use Rattle.vecmap.specs.Pairs.{map_values};
+ghost use Rattle.std.specs.{Prelude.{◌≡◌, ◌+◌, ◌++◌, ◌∷◌, ◌-◌, ◌<◌, ◌^◌, IfOk, OnErr, OnOk, [], map, min, nat_eq, sum, unwrap_or}, List.All, Map.{keys_of, values_of}};
+ghost use Rattle.vecmap.specs.Pairs.{lookup, map_values, put};
 ghost use Rattle.vecmap_callers.specs.Updating.{IsMappedInPart, lists_of};
 
 use std::alloc::AllocError;
@@ -86,10 +86,14 @@ pub fn push_in_slice<K>(lists: &mut VecMap<K, Vec<u8>>, item: u8) -> Result<(), 
 ///
 /// # Errors
 ///
-/// [`AllocError`] if allocation fails.
+/// [`AllocError`] if allocation fails; the stock is then unchanged.
 pub fn restock(stock: &mut VecMap<u32, u32>, article: u32, amount: u32) -> Result<u32, AllocError>
-    ensures { IfOk result (λ old. sum (values_of stock.new.entries) + old
+    ensures entries { OnOk result (stock.new.entries ≡ put nat_eq stock.old.entries article amount) }
+    ensures old { IfOk result (λ old. old
+        ≡ unwrap_or (lookup nat_eq stock.old.entries article) 0) }
+    ensures total { IfOk result (λ old. sum (values_of stock.new.entries) + old
         ≡ sum (values_of stock.old.entries) + amount) }
+    ensures err { OnErr result (stock.new ≡ stock.old) }
 {
     sums_follow_changes::<u32, u32>();
     Ok(stock.insert(article, amount)?.unwrap_or(0))

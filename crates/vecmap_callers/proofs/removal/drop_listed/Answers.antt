@@ -2,8 +2,11 @@ use Rattle.std.proofs.{Common.{rules, ◌≡◌, ◌∙◌, ℕ, Bool, None, ap,
 use Rattle.vecmap.specs.Pairs.{lookup}
 use Rattle.vecmap_callers.proofs.removal.drop_listed.Goals as goal
 
-pub returns : goal.returns
-returns c = λ key.
+pub returns-clause-entries : goal.returns-clause-entries
+returns-clause-entries c = c.retain.ensures.selection.left.filters (λ p. not (is_some (lookup nat_eq c.args.listed.now.entries p.0))) (λ x b y g call. search rules)
+
+pub returns-clause-lookups : goal.returns-clause-lookups
+returns-clause-lookups c = λ key.
     let stays : ℕ → Bool = λ k. not (is_some (lookup nat_eq c.args.listed.now.entries k)) in
     let kept = c.retain.ensures.selection.left.filters (λ p. stays p.0) (λ x b y g call. search rules) in
     rw kept (c.filters_keep_lookups.ensures.by_key stays (λ x y e. ap stays (eqb-true x y e)) c.args.stock.now.entries key ∙ turned (lookup nat_eq c.args.stock.now.entries key) None (is_some (lookup nat_eq c.args.listed.now.entries key)))
