@@ -5,7 +5,6 @@
 pub mod documents;
 pub mod editor;
 pub mod equivalent;
-pub mod filling;
 pub mod header_lists;
 pub mod interner;
 pub mod iteration;
