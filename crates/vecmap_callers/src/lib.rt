@@ -11,7 +11,6 @@ pub mod iteration;
 pub mod operators;
 pub mod options;
 pub mod order;
-pub mod partition;
 pub mod removal;
 pub mod scopes;
 pub mod traits;
