@@ -8,7 +8,6 @@ pub mod equivalent;
 pub mod header_lists;
 pub mod interner;
 pub mod iteration;
-pub mod operators;
 pub mod options;
 pub mod order;
 pub mod removal;
