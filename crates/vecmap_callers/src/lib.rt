@@ -7,7 +7,6 @@ pub mod editor;
 pub mod equivalent;
 pub mod header_lists;
 pub mod interner;
-pub mod iteration;
 pub mod options;
 pub mod order;
 pub mod removal;
