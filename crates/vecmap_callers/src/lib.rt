@@ -8,7 +8,6 @@ pub mod equivalent;
 pub mod header_lists;
 pub mod interner;
 pub mod options;
-pub mod order;
 pub mod removal;
 pub mod scopes;
 pub mod traits;
