@@ -1,4 +1,3 @@
 pub mod InternerLemmas
 pub mod OptionLemmas
 pub mod ScopeLemmas
-pub mod StoppedLemmas

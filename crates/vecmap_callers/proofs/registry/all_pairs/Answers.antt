@@ -1,6 +1,6 @@
 -- The run that was collected took all items of the vector, and its values are those of the items, place by place.
 use Rattle.std.proofs.{Common.{◌≡◌, ◌<◌, Ok, length, rules}, lemmas.{Option.slice_get-get_or, Result.IfOk-weaker}}
-use Rattle.vecmap_callers.proofs.traits.all_pairs.Goals as goal
+use Rattle.vecmap_callers.proofs.registry.all_pairs.Goals as goal
 
 pub returns : goal.returns
 returns c =
