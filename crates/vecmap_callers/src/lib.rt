@@ -9,7 +9,6 @@ pub mod header_lists;
 pub mod interner;
 pub mod options;
 pub mod registry;
-pub mod removal;
 pub mod scopes;
 pub mod trees;
 pub mod updating;
