@@ -4,4 +4,3 @@ pub mod Interner
 pub mod Options
 pub mod Scopes
 pub mod Trees
-pub mod Updating

@@ -11,4 +11,3 @@ pub mod options;
 pub mod registry;
 pub mod scopes;
 pub mod trees;
-pub mod updating;

@@ -56,7 +56,6 @@ pub mod Sums
 pub mod TextPairs
 pub mod TextQueries
 pub mod Undone
-pub mod UpdatedLemmas
 pub mod Values
 pub mod WalkLemmas
 pub mod WriteLemmas
