@@ -4,7 +4,6 @@
 //! After `host` is set to `d`, it has this value alone.
 //!
 //! ```
-//! # use vecmap_callers::equivalent::Name;
 //! let mut headers = HeaderList::new(alloc);
 //! headers.append(Name::new(String::from_str(alloc, "Accept")?), String::from_str(alloc, "a")?)?;
 //! headers.set(Name::new(String::from_str(alloc, "Host")?), String::from_str(alloc, "b")?)?;
@@ -13,15 +12,29 @@
 //! headers.remove("host").is_some() // true
 //! ```
 ghost use Rattle.std.specs.Prelude.{◌≡◌, ◌++◌, ◌∷◌, ℕ, List, None, OnErr, OnOk, [], false, option_map, slice_get, string_bytes, unwrap_or};
-ghost use Rattle.std.specs.{Map.keys_of, Str.str_eq_ignore_ascii_case};
+ghost use Rattle.std.specs.{Cmp.Lexicographic.nat_list_eq_equiv, Map.keys_of, Str.{str_eq_ignore_ascii_case, str_to_ascii_lowercase}};
 ghost use Rattle.vecmap.specs.{Items.{add, without_item}, Pairs.{HasDistinctKeys, lookup, without_key}};
 ghost use Rattle.vecmap_callers.specs.HeaderLists.{values_of};
 
-use crate::equivalent::{Name, NamedAs};
+pub use attr_doc::Name;
 use std::alloc::{AllocError, Global};
 use std::marker::Model;
-use vecmap::VecMap;
+use vecmap::{Equivalent, VecMap};
 use vecmap_laws::maps as laws;
+
+/// A query that matches the names that are this text, in any case.
+#[derive(Clone, Copy, Debug)]
+pub struct NamedAs<'a>(pub &'a str);
+
+impl Equivalent<Name> for NamedAs<'_> {
+    ghost equivalent = { λ query. str_eq_ignore_ascii_case query.0.now };
+
+    fn equivalent(&self, name: &Name) -> bool {
+        self.0.eq_ignore_ascii_case(name.text())
+    }
+
+    ghost respects_eq = { λ query x y. nat_list_eq_equiv.congr (str_to_ascii_lowercase query.0.now) (str_to_ascii_lowercase x) (str_to_ascii_lowercase y) };
+}
 
 /// Names with their values. A contract sees the list of the names, each with the vector of its values.
 #[derive(Drop)]

@@ -4,7 +4,6 @@
 
 pub mod documents;
 pub mod editor;
-pub mod equivalent;
 pub mod header_lists;
 pub mod interner;
 pub mod options;

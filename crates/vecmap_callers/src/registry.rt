@@ -1,4 +1,4 @@
-//! Registries: the amounts of articles, each under its number.
+//! Registries: the amounts of articles, each under its number, and the grades of persons, each under two names.
 //!
 //! ```
 //! let mut stock = all_pairs(alloc, vec![in alloc; Ok((1, 2)), Ok((2, 5)), Ok((1, 3))]?)?;
@@ -6,16 +6,21 @@
 //! restock(&mut stock, 1, 7)? // 3
 //! raise_in_slice(&mut stock);
 //! stock.as_slice() // [(1, 8)]
+//! let mut grades = VecMap::new(alloc);
+//! set_grade(&mut grades, (String::from_str(alloc, "Ada")?, String::from_str(alloc, "King")?), 1)?;
+//! (grade_of(&grades, "Ada", "King"), grade_of(&grades, "Ada", "Lee")) // (Some(1), None)
 //! ```
 ghost use Rattle.std.specs.Map.{values_of};
-ghost use Rattle.std.specs.Prelude.{◌≡◌, ◌+◌, ◌-◌, ◌<◌, ◌^◌, ℕ, IfOk, List, None, Ok, OnErr, OnOk, Some, [], filter, if◌then◌else◌, is_some, length, map, min, nat_eq, not, slice_get, slice_index_or, sum, unwrap_or};
-ghost use Rattle.vecmap.specs.Pairs.{lookup, put, puts};
+ghost use Rattle.std.specs.Prelude.{◌≡◌, ◌+◌, ◌-◌, ◌<◌, ◌^◌, ℕ, IfOk, List, None, Ok, OnErr, OnOk, Some, [], false, filter, if◌then◌else◌, is_some, length, map, min, nat_eq, not, slice_get, slice_index_or, string_bytes, sum, unwrap_or};
+ghost use Rattle.vecmap.specs.Pairs.{lookup, lookup_by, put, puts};
+ghost use Rattle.vecmap_laws.specs.TextPairs.{both_equal, has_texts};
 
 use std::alloc::{AllocError, Global};
 use vecmap::VecMap;
 use vecmap::map::MutableKeys;
 use vecmap_laws::maps::{
-    collecting_one_more_is_extending, filters_keep_lookups, sums_follow_changes,
+    collecting_one_more_is_extending, filters_keep_lookups, pairs_of_texts_are_queries,
+    queries_find_as_keys, sums_follow_changes,
 };
 
 /// Collects the pairs into a map, or returns the first error among them.
@@ -71,4 +76,36 @@ pub fn restock(stock: &mut VecMap<u32, u32>, article: u32, amount: u32) -> Resul
 {
     sums_follow_changes::<u32, u32>();
     Ok(stock.insert(article, amount)?.unwrap_or(0))
+}
+
+/// Returns the grade of a person, by a first and a last name. No `String` is created.
+pub fn grade_of(grades: &VecMap<(String, String), u32>, first: &str, last: &str) -> Option<u32>
+    ensures { result ≡ lookup_by (has_texts first.now last.now) grades.now.entries }
+{
+    grades.get((first, last)).copied()
+}
+
+/// Sets the grade of a person. Other names find what they found before.
+///
+/// # Errors
+///
+/// [`AllocError`] if allocation fails; the grades are then unchanged.
+pub fn set_grade(
+    grades: &mut VecMap<(String, String), u32>,
+    name: (String, String),
+    grade: u32,
+) -> Result<(), AllocError>
+    ensures entries { OnOk result (grades.new.entries
+        ≡ put both_equal grades.old.entries name grade) }
+    ensures err { OnErr result (grades.new ≡ grades.old) }
+    ensures own { OnOk result (lookup_by
+        (has_texts (string_bytes name.0) (string_bytes name.1)) grades.new.entries ≡ Some grade) }
+    ensures others { (first last : List ℕ) → has_texts first last name ≡ false
+        → lookup_by (has_texts first last) grades.new.entries
+        ≡ lookup_by (has_texts first last) grades.old.entries }
+{
+    pairs_of_texts_are_queries();
+    queries_find_as_keys::<(String, String), u32>();
+    grades.insert(name, grade)?;
+    Ok(())
 }
