@@ -1,9 +1,10 @@
 -- The text under two names, by two lookups.
 use Rattle.std.specs.Prelude.{◌≡◌, ℕ, List, None, Option, Some, IsSome, false, is_some, option_and_then, option_map, string_bytes, true}
 use Rattle.std.{specs.Str.str_eq_ignore_ascii_case, proofs.Common.{sym, ap, ◌∙◌}}
+use Rattle.vecmap_base.proofs.IndexLemmas.{is_some-map}
 use Rattle.vecmap.specs.Pairs.{index_of, lookup}
 use Rattle.attr_doc.specs.Documents.{Section, Stored, sections_of, text_of}
-use Rattle.vecmap_laws.proofs.{AfterPuts.is_some_lookup, EachValue.lookup_map_values, PositionLemmas.is_some-map}
+use Rattle.vecmap_laws.proofs.{AfterPuts.is_some_lookup, EachValue.lookup_map_values}
 
 -- The text under a name of a section.
 abbrev pub text_in : Section → List ℕ → Option (List ℕ)

@@ -1,15 +1,11 @@
 -- What is found, and at which index, after one insertion and after many.
-pub use Rattle.vecmap_base.proofs.PairsLemmas.Puts.{put_some}
+use Rattle.vecmap_base.specs.Pairs.{HasDistinctKeys, index_of, index_or_length, lookup, put, put_key, puts, value_at, without_key}
+use Rattle.vecmap_base.proofs.PairsLemmas.{ByIndex.{lookup_by_index, put_by_index}, Indices.is_some_index_of, Keys.{index_of_is, keys_of_put}, Lookups.updates_put, Parts.joins_of_puts, Puts.{put_some, put_stored}, Updates.put_key_finds_as_put}
 use Rattle.std.specs.{Cmp.IsEquivalence, List.list_any, Map.keys_of, Option.option_and_then, Option.option_map, Option.option_map_or, Option.option_or}
 use Rattle.std.proofs.Common.{◌≡◌, ◌<◌, ◌+◌, ℕ, Bool, true, List, [], ◌∷◌, ◌++◌, Option, None, Some, if◌then◌else◌, is_some, length, slice_get, unwrap_or, refl, sym, ap, ◌∙◌, arith, length-append, true≢false}
 use Rattle.std.proofs.{lemmas.{List.length-map, Map.Made.is_some-lookup, Option.slice_get-map}, lemmas.Map.lookup-remove_entry}
-use Rattle.vecmap_base.specs.Pairs.{HasDistinctKeys, index_of, index_or_length, lookup, put, put_key, puts, value_at, without_key}
-use Rattle.vecmap_base.proofs.{PairsLemmas.Keys.{index_of_is, keys_of_put}, PairsLemmas.Lookups.updates_put, PairsLemmas.Parts.joins_of_puts}
-use Rattle.vecmap_base.proofs.PairsLemmas.{ByIndex.lookup_by_index, ByIndex.put_by_index, Indices.is_some_index_of}
-use Rattle.vecmap_laws.proofs.{Indices.index_of_none, ItemIndices.{item_index_add, item_index_congr, item_index_own}, Puts.put_stored}
-use Rattle.vecmap_laws.proofs.{ItemRemovals.without_item_absent, Keys.keys_of_without_key, Values.length_with_value}
-use Rattle.vecmap_base.proofs.PairsLemmas.Updates.{put_key_finds_as_put}
-pub use Rattle.vecmap_map.proofs.MadeLemmas.{or_none as option_or_none}
+use Rattle.vecmap_laws.proofs.{Indices.index_of_none, ItemRemovals.without_item_absent, Values.length_with_value}
+use Rattle.vecmap_laws.proofs.{ItemIndices.{item_index_add, item_index_congr, item_index_own}, Keys.keys_of_without_key}
 
 pub option_or_assoc : {X : Type 0} (a b c : Option X) → option_or (option_or a b) c ≡ option_or a (option_or b c)
 option_or_assoc None b c = refl

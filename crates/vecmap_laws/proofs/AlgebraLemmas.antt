@@ -2,12 +2,13 @@
 -- order is one about the shorter and the other.
 use Rattle.std.specs.{Set.is_member, Cmp.IsEquivalence, List.IsDistinct}
 use Rattle.std.proofs.Common.{◌≡◌, ◌+◌, ◌∙◌, Bool, true, ◌&&◌, ◌||◌, List, [], arith, length, nat_lt, not}
-use Rattle.vecmap_base.{specs.{Equality.has_same_items, Items.{adds, both}}, proofs.EqualityLemmas.Sets.set_equality_laws}
+use Rattle.vecmap_base.specs.{Equality.has_same_items, Items.{adds, both}}
+use Rattle.vecmap_base.proofs.{EqualityLemmas.Sets.set_equality_laws, ItemsLemmas.Members.is_member_adds}
 use Rattle.vecmap_set.specs.Lazy.{Filtered, Parts, filtered_of, filtered_of_shorter, filtered_rest, longer_first, union_parts, union_rest}
 use Rattle.vecmap_set.specs.Operators.{symmetric_difference_of, union_of}
-use Rattle.vecmap_laws.proofs.{ItemMembers.is_member_adds, SetRelations.{both_turned, length_both_turned, length_union, union_turned}}
+use Rattle.vecmap_set.proofs.OperatorLemmas.{is_member_symmetric_difference}
 use Rattle.vecmap_laws.specs.Algebra.{lazy_intersection, lazy_union}
-pub use Rattle.vecmap_set.proofs.OperatorLemmas.{is_member_symmetric_difference}
+use Rattle.vecmap_laws.proofs.SetRelations.{both_turned, length_both_turned, length_union, union_turned}
 
 module _ {T : Type 0} (a b : List T) where
   -- What holds of two lists in either order holds of the shorter and the other.

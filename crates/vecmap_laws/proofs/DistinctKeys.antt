@@ -1,11 +1,10 @@
 -- Keys that are distinct stay distinct in the lists that calls leave.
 use Rattle.std.specs.{Cmp.IsEquivalence, List.IsDistinct, List.swap_remove, Map.keys_of, Option.option_map_or}
 use Rattle.std.proofs.{Common.{arith, ◌≡◌, ℕ, Bool, List, Option, None, Some, slice_get, take, refl, sym, subst}, lemmas.List.take-map}
-use Rattle.vecmap_base.specs.{Items.swap_without, Pairs.{HasDistinctKeys, put_at, puts, swap_without_by, swap_without_key, with_value, without_by}}
+use Rattle.vecmap_base.specs.Items.{swap_without}
+use Rattle.vecmap_base.specs.Pairs.{HasDistinctKeys, put_at, puts, swap_without_by, swap_without_key, with_value, without_by}
 use Rattle.vecmap_base.proofs.{DistinctLemmas.Removals.distinct_take, RemovalLemmas.swap_removes_at}
-use Rattle.vecmap_base.proofs.PairsLemmas.{ByIndex.without_by_index, Parts.joins_of_puts, Updates.updates_put_at, Values.keys_of_with_value}
-pub use Rattle.vecmap_base.proofs.PairsLemmas.Distinct.{distinct_keys_rearranged, distinct_keys_remove, distinct_put}
-pub use Rattle.vecmap_base.proofs.PairsLemmas.Updates.{distinct_put_key}
+use Rattle.vecmap_base.proofs.PairsLemmas.{ByIndex.without_by_index, Distinct.distinct_keys_remove, Parts.joins_of_puts, Updates.updates_put_at, Values.keys_of_with_value}
 
 module _ {K V : Type 0} (eq : K → K → Bool) where
   pub distinct_keys_with_value : (l : List (K × V)) (i : ℕ) (v : V) → HasDistinctKeys eq l → HasDistinctKeys eq (with_value l i v)

@@ -1,7 +1,6 @@
 -- Equations between lists that calls leave.
 use Rattle.std.{specs.Cmp.IsEquivalence, proofs.Common.{◌≡◌, Bool, List, [], ◌∷◌, arith}}
-use Rattle.vecmap_base.specs.Pairs.{put}
-use Rattle.vecmap_laws.proofs.Recursion.{put_cons}
+use Rattle.vecmap_base.{specs.Pairs.put, proofs.PairsLemmas.Recursion.put_cons}
 
 module _ {K V : Type 0} (eq : K → K → Bool) where
   module _ (o : IsEquivalence eq) where

@@ -4,11 +4,12 @@ use Rattle.std.proofs.Common.{◌≡◌, ◌<◌, ◌&&◌, not, ℕ, suc, zero,
 use Rattle.std.proofs.lemmas.{Bool.Decides.nat_tests, List.Sorted.IsPermutation-reverse}
 use Rattle.vecmap_base.specs.Items.{swap_without, swap_without_item, without_item}
 use Rattle.vecmap_base.specs.Pairs.{HasDistinctKeys, index_of, index_or_length, lookup, put_at, put_key, swap_without_key, without_key}
-use Rattle.vecmap_base.proofs.{PairsLemmas.Parts.lookup_by_take, RemovalLemmas.swap_removes_by}
-use Rattle.vecmap_laws.proofs.{AfterPuts.{is_some_lookup, lookup_put_any, lookup_put_key}, HeadLemmas.{head_has_no_value, rest_is_distinct}}
-use Rattle.vecmap_laws.proofs.{DistinctKeys.{distinct_keys_rearranged, distinct_keys_without}, Indices.index_or_length_cons}
-use Rattle.vecmap_laws.proofs.{Inserted.lookup_put_at, Lookups.lookup_congr, Order.lookup_rearranged, Recursion.lookup_cons}
-use Rattle.vecmap_laws.proofs.RemovalLemmas.{is_member_by_test, remove_leaves, swap_leaves}
+use Rattle.vecmap_base.proofs.PairsLemmas.{Distinct.distinct_keys_rearranged, Parts.lookup_by_take}
+use Rattle.vecmap_base.proofs.RemovalLemmas.{swap_removes_by}
+use Rattle.vecmap_laws.proofs.{AfterPuts.{is_some_lookup, lookup_put_any, lookup_put_key}, Indices.index_or_length_cons}
+use Rattle.vecmap_laws.proofs.{DistinctKeys.distinct_keys_without, HeadLemmas.{head_has_no_value, rest_is_distinct}}
+use Rattle.vecmap_laws.proofs.{Inserted.lookup_put_at, Lookups.lookup_congr, Recursion.lookup_cons}
+use Rattle.vecmap_laws.proofs.{Order.lookup_rearranged, RemovalLemmas.{is_member_by_test, remove_leaves, swap_leaves}}
 
 module _ {K V : Type 0} (eq : K → K → Bool) (o : IsEquivalence eq) where
   pub lookup_swap_without_key : (l : List (K × V)) (k q : K) → HasDistinctKeys eq l → lookup eq (swap_without_key eq l k) q ≡ (if eq k q then None else lookup eq l q)

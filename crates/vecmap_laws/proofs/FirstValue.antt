@@ -2,9 +2,10 @@
 use Rattle.std.proofs.Common.{arith, ◌≡◌, Bool, List, [], ◌∷◌, ◌++◌, None, Some, if◌then◌else◌, ap, refl, sym, unwrap_or, ◌∙◌}
 use Rattle.std.specs.{Cmp.IsEquivalence, Map.keys_of, Option.{option_and_then, option_or}}
 use Rattle.vecmap_base.proofs.{PairsLemmas.Keys.keys_of_put, PairsLemmas.ByIndex.lookup_by_index, PairsLemmas.Puts.put_absent}
-use Rattle.vecmap_laws.proofs.{AfterPuts.{lookup_put_any, option_or_none, put_same}, Lookups.lookup_congr, Recursion.lookup_cons}
-use Rattle.vecmap_base.specs.{Items.adds, Pairs.{index_of, lookup, put, value_at}}
 use Rattle.vecmap_laws.specs.FirstValue.{put_new, puts_new}
+use Rattle.vecmap_laws.proofs.{AfterPuts.{lookup_put_any, put_same}, Lookups.lookup_congr, Recursion.lookup_cons}
+use Rattle.vecmap_base.specs.{Items.adds, Pairs.{index_of, lookup, put, value_at}}
+use Rattle.vecmap_map.proofs.MadeLemmas.{or_none}
 
 module _ {K V : Type 0} (eq : K → K → Bool) where
   -- A key that is present keeps its value, and nothing changes.
@@ -31,5 +32,5 @@ module _ {K V : Type 0} (eq : K → K → Bool) where
 
     -- A lookup finds the old value of its key, or else the first one that the pairs give it.
     pub lookup_puts_new : (l ps : List (K × V)) (q : K) → lookup eq (puts_new eq l ps) q ≡ option_or (lookup eq l q) (lookup eq ps q)
-    lookup_puts_new l [] q = sym (option_or_none (lookup eq l q))
+    lookup_puts_new l [] q = sym (or_none (lookup eq l q))
     lookup_puts_new l (p ∷ ps) q = lookup_puts_new (put_new eq l p.0 p.1) ps q ∙ first_wins l ps p.0 p.1 q

@@ -1,8 +1,8 @@
 -- What the definitions say that are about an index.
 use Rattle.std.{specs.{List.list_any, Map.keys_of}, proofs.Common.{arith, ◌≡◌, suc, Bool, false, List, ◌∷◌, None, if◌then◌else◌, ◌∙◌, sym}}
-use Rattle.vecmap_base.{specs.Pairs.{index_of, index_or_length}, proofs.PairsLemmas.{Recursion.index_of_cons, ByIndex.index_by_is}}
+use Rattle.vecmap_base.specs.Pairs.{index_of, index_or_length}
 use Rattle.vecmap_base.proofs.IndexLemmas.{list_any_map, position_none}
-pub use Rattle.vecmap_base.proofs.PairsLemmas.Indices.{lookup_by_map_values, is_some_index_of}
+use Rattle.vecmap_base.proofs.PairsLemmas.{ByIndex.index_by_is, Recursion.index_of_cons}
 
 module _ {K V : Type 0} (p : K × V) (ps : List (K × V)) where
   module _ (eq : K → K → Bool) (k : K) where

@@ -1,7 +1,6 @@
 -- What additions, in order, make of a list.
 use Rattle.std.proofs.{Common.{◌≡◌, Bool, List, ◌++◌}, lemmas.List.Sums.fold-append}
 use Rattle.vecmap_base.specs.Items.{add, adds}
-pub use Rattle.vecmap_base.proofs.ItemsLemmas.Additions.{add_absent, add_present, adds_apart, adds_distinct}
 
 module _ {T : Type 0} (eq : T → T → Bool) where
   -- Elements that are added in two parts are added as a whole.

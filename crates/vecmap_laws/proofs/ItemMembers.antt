@@ -3,10 +3,8 @@
 use Rattle.std.proofs.{lemmas.Grind.common_steps, lemmas.{Bool.cases_Bool, List.append-nil, List.append_assoc, List.Folds.list_any-append}}
 use Rattle.std.specs.{Set.is_member, Cmp.IsEquivalence, Option.option_or}
 use Rattle.std.proofs.Common.{◌≡◌, ◌<◌, ◌+◌, ℕ, Bool, false, ◌||◌, List, [], ◌∷◌, ◌++◌, Some, length, option_map, slice_get, suc, zero, refl, sym, ap, ◌∙◌, arith}
-use Rattle.vecmap_base.specs.{Items.add, Items.adds, Items.item_index, Items.only}
-use Rattle.vecmap_base.proofs.{ItemsLemmas.{Additions.add_absent, Additions.add_present}, ItemsLemmas.Members.members_of_add}
-pub use Rattle.vecmap_base.proofs.ItemsLemmas.Members.{is_member_adds}
-pub use Rattle.vecmap_base.proofs.ItemsLemmas.Changes.{is_member_clones}
+use Rattle.vecmap_base.specs.Items.{add, adds, item_index, only}
+use Rattle.vecmap_base.proofs.ItemsLemmas.{Additions.{add_absent, add_present}, Members.members_of_add}
 use Rattle.vecmap_laws.proofs.PositionLemmas.{position_append}
 
 -- An item of the front of a list is at its index in the whole list.

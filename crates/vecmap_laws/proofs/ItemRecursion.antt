@@ -1,7 +1,6 @@
 -- The definitions on elements, for a list with one element more.
 use Rattle.std.proofs.Common.{arith, ◌≡◌, Bool, List, ◌∷◌, if◌then◌else◌}
 use Rattle.vecmap_base.{specs.Items.{without_first, without_item}, proofs.IndexLemmas.position_cons}
-pub use Rattle.vecmap_base.proofs.ItemsLemmas.Recursion.{item_index_cons, add_cons}
 
 module _ {T : Type 0} (test : T → Bool) where
   pub without_first_cons : (x : T) (xs : List T) → without_first test (x ∷ xs) ≡ (if test x then xs else x ∷ without_first test xs)

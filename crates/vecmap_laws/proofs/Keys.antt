@@ -2,8 +2,6 @@
 use Rattle.std.{specs.Map.keys_of, proofs.Common.{arith, ◌≡◌, Bool, List, [], ◌∷◌}}
 use Rattle.vecmap_base.specs.{Items.without_item, Pairs.without_key}
 use Rattle.vecmap_laws.proofs.{ItemRecursion.without_item_cons, Recursion.without_key_cons}
-pub use Rattle.vecmap_base.proofs.PairsLemmas.Distinct.{keys_of_remove}
-pub use Rattle.vecmap_base.proofs.PairsLemmas.Keys.{index_of_is, keys_of_insert, keys_of_put, keys_of_puts}
 
 module _ {K V : Type 0} (eq : K → K → Bool) where
   pub keys_of_without_key : (l : List (K × V)) (k : K) → keys_of (without_key eq l k) ≡ without_item eq (keys_of l) k

@@ -4,14 +4,9 @@ pub mod AlgebraLemmas
 pub mod AtNumbers
 pub mod AtTexts
 pub mod CloneEquality
-pub use Rattle.vecmap_base.proofs.CloneLemmas
 mod ComparisonLemmas
-pub use Rattle.vecmap_map.proofs.ContentsLemmas
-pub mod DistinctAbsent
 pub mod DistinctKeys
-pub use Rattle.vecmap_base.proofs.DistinctLemmas.Order as DistinctOrder
 pub mod DistinctParts
-pub use Rattle.vecmap_base.proofs.DistinctLemmas.Removals as DistinctRemovals
 pub mod EachPair
 pub mod EachValue
 mod EntryPuts
@@ -32,16 +27,13 @@ pub mod ItemRemovals
 pub mod ItemsAfter
 pub mod KeptLemmas
 pub mod Keys
-pub use Rattle.vecmap_set.proofs.LazyLemmas
 pub mod Lookups
 pub mod LoopLemmas
 pub mod LoopPairs
 pub mod MapEquality
-pub use Rattle.vecmap_set.proofs.OperatorLemmas
 pub mod Order
 pub mod NewKeys
 pub mod OtherPairs
-pub use Rattle.vecmap_base.proofs.EqualityLemmas.Partial as PartialMapEquality
 pub mod Parts
 pub mod PositionLemmas
 pub mod Puts

@@ -1,7 +1,6 @@
 -- Loops that write the items of a list in order.
 use Rattle.std.{specs.{List.refill, Map.keys_of}, proofs.Common.{◌≡◌, ℕ, ◌+◌, ◌<◌, List, ◌∷◌, [], ◌++◌, ap, arith, drop, get_or, length, map, set, sym, take, ◌∙◌}}
 use Rattle.std.proofs.lemmas.{List.{drop-set-lt, drop_more, map_push, take_at, take_more, take_more_set}, Map.Entries.length-keys_of}
-pub use Rattle.vecmap_base.proofs.LoopLemmas.{key_stays}
 
 module _ {K V : Type 0} where
   -- A map whose pairs were written has the keys of what was written, if these are as many.

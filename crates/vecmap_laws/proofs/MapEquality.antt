@@ -4,12 +4,11 @@ use Rattle.std.specs.{Cmp.{IsEquivalence, both_ways, partial_equiv_from_equiv}, 
 use Rattle.std.{specs.Option.option_eq, proofs.Common.{cond, sym, ap, ◌∙◌, arith, true≢false, inl, inr}}
 use Rattle.std.proofs.lemmas.{Bool.{and_from, and_parts, cases_Bool, or_parts}, List.Sorted.sum_by-IsPermutation}
 use Rattle.std.proofs.lemmas.Map.{Keys.{IsDistinct-head, IsDistinct-tail}, Steps.list_any_congr}
-use Rattle.vecmap_base.specs.{Equality.{count, same_pair, counts_agree, has_same_counts}, Pairs.{HasDistinctKeys, lookup}}
-use Rattle.vecmap_base.proofs.EqualityLemmas.Counts.{as_often, many_cons, counts_from_test, test_from_counts}
-use Rattle.vecmap_base.proofs.EqualityLemmas.Partial.{partial_map_equal_by_half, partial_map_lengths_differ}
+use Rattle.vecmap_base.specs.Equality.{count, counts_agree, has_same_counts, same_pair}
+use Rattle.vecmap_base.specs.Pairs.{HasDistinctKeys, lookup}
 use Rattle.vecmap_base.proofs.DistinctLemmas.Absent.{none_equal}
+use Rattle.vecmap_base.proofs.EqualityLemmas.{Counts.{as_often, counts_from_test, many_cons, test_from_counts}, Maps.{counts_as_often, same_pair_laws}, Partial.{partial_map_equal_by_half, partial_map_lengths_differ}}
 use Rattle.vecmap_laws.{proofs.Lookups.{look, lookup_absent, lookup_congr}, specs.Agreement.{agrees, lookups_agree}}
-pub use Rattle.vecmap_base.proofs.EqualityLemmas.Maps.{same_pair_laws, counts_as_often, map_equality_laws}
 
 module _ {X : Type 0} (same : X → X → Bool) (o : IsEquivalence same) where
   -- The order of a list makes no difference.

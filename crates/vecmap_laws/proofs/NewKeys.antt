@@ -2,8 +2,8 @@
 use Rattle.std.specs.{Cmp.IsEquivalence, List.IsDistinct, Map.keys_of}
 use Rattle.std.proofs.Common.{◌≡◌, ◌<◌, ◌++◌, ℕ, All, Bool, true, false, List, [], ◌∷◌, None, Some, arith, eqb-true, if◌then◌else◌, nat_eq, refl, subst, sym}
 use Rattle.std.proofs.{lemmas.List.map-append, lemmas.List.Elements.{All-head, All-tail}}
-use Rattle.vecmap_base.specs.Pairs.{HasDistinctKeys, lookup}
-use Rattle.vecmap_laws.proofs.{DistinctAbsent.none_before, Lookups.lookup_absent}
+use Rattle.vecmap_base.{specs.Pairs.{HasDistinctKeys, lookup}, proofs.DistinctLemmas.Absent.none_before}
+use Rattle.vecmap_laws.proofs.Lookups.{lookup_absent}
 
 -- A number above all keys is no key.
 pub new_above : {V : Type 0} (l : List (ℕ × V)) (n : ℕ) → All (λ p. p.0 < n) l → lookup nat_eq l n ≡ None

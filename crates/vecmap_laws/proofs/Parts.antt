@@ -2,9 +2,10 @@
 use Rattle.std.proofs.{lemmas.Grind.common_steps, Common.{arith, ◌≡◌, ℕ, Bool, List, [], ◌∷◌, ◌++◌, Some, position, reverse, sym, ap, ◌∙◌}}
 use Rattle.std.{proofs.lemmas.List.reverse-append, specs.{Cmp.IsEquivalence, Option.option_or, Map.keys_of}}
 use Rattle.vecmap_base.specs.{Items.{adds, item_index}, Pairs.{index_of, lookup, put, puts}}
-use Rattle.vecmap_base.proofs.PairsLemmas.Keys.{index_of_is, keys_of_puts}
-use Rattle.vecmap_laws.proofs.{AfterPuts.{lookup_put_any, option_or_assoc, option_or_none}, ItemMembers.item_index_adds_kept, Lookups.look}
-pub use Rattle.vecmap_base.proofs.PairsLemmas.Parts.{lookup_by_append}
+use Rattle.vecmap_base.proofs.PairsLemmas.{Keys.{index_of_is, keys_of_puts}, Parts.lookup_by_append}
+use Rattle.vecmap_laws.proofs.{AfterPuts.{lookup_put_any, option_or_assoc}, ItemMembers.item_index_adds_kept}
+use Rattle.vecmap_laws.proofs.Lookups.{look}
+use Rattle.vecmap_map.proofs.MadeLemmas.{or_none}
 
 module _ {K V : Type 0} (eq : K → K → Bool) where
   pub lookup_append : (a b : List (K × V)) (q : K) → lookup eq (a ++ b) q ≡ option_or (lookup eq a q) (lookup eq b q)
@@ -29,4 +30,4 @@ module _ {K V : Type 0} (eq : K → K → Bool) where
 
     -- The same from the empty list.
     pub lookup_made_last : (pairs : List (K × V)) (q : K) → lookup eq (puts eq [] pairs) q ≡ lookup eq (reverse pairs) q
-    lookup_made_last pairs q = lookup_puts_last [] pairs q ∙ option_or_none (lookup eq (reverse pairs) q)
+    lookup_made_last pairs q = lookup_puts_last [] pairs q ∙ or_none (lookup eq (reverse pairs) q)

@@ -1,7 +1,6 @@
 -- The first index of an item that passes a test, in a list of two parts.
 use Rattle.std.{proofs.Common.{arith, ◌≡◌, ◌+◌, Bool, List, [], ◌∷◌, ◌++◌, length, option_map, position}, specs.Option.option_or}
 use Rattle.vecmap_base.proofs.IndexLemmas.{position_cons}
-pub use Rattle.vecmap_base.proofs.IndexLemmas.{is_some-map}
 
 module _ {X : Type 0} (p : X → Bool) where
   -- In a list of two parts, an item passes in the first part, or else in the second.

@@ -2,9 +2,7 @@
 use Rattle.std.specs.{Cmp.IsEquivalence, Option.option_map_or}
 use Rattle.std.proofs.Common.{arith, ◌≡◌, ℕ, ◌-◌, Bool, List, ◌++◌, None, Some, insert, length, min, remove, drop, take, ap}
 use Rattle.std.proofs.lemmas.{List.take-append-drop, List.Sums.fold-append}
-use Rattle.vecmap_base.specs.Pairs.{HasDistinctKeys, index_of, put, put_at, puts}
-pub use Rattle.vecmap_base.proofs.PairsLemmas.Parts.{puts_apart, puts_distinct}
-pub use Rattle.vecmap_base.proofs.PairsLemmas.Puts.{put_absent, put_stored}
+use Rattle.vecmap_base.{specs.Pairs.{HasDistinctKeys, index_of, put, put_at, puts}, proofs.PairsLemmas.Parts.puts_apart}
 
 module _ {K V : Type 0} (eq : K → K → Bool) where
   -- If the key is absent, the pair is inserted at `i`.

@@ -3,7 +3,6 @@ use Rattle.std.{specs.Option.option_map_or, proofs.Common.{◌≡◌, ◌∙◌,
 use Rattle.vecmap_base.specs.Items.{swap_without, swap_without_first, without_first}
 use Rattle.vecmap_base.specs.Pairs.{lookup, swap_without_by, without_by, without_key}
 use Rattle.vecmap_base.proofs.PairsLemmas.ByIndex.{index_by_is, without_by_index}
-pub use Rattle.vecmap_base.proofs.PairsLemmas.Recursion.{index_of_cons, put_cons}
 
 module _ {K V : Type 0} (eq : K → K → Bool) where
   pub lookup_cons : (p : K × V) (ps : List (K × V)) (k : K) → lookup eq (p ∷ ps) k ≡ (if eq k p.0 then Some p.1 else lookup eq ps k)

@@ -1,9 +1,7 @@
 -- The laws of the equality of sets, and of one set within another.
 use Rattle.std.specs.{Prelude.{◌≡◌, ◌↔◌, Bool, true, List}, Cmp.IsEquivalence, List.Sorted.IsPermutation}
 use Rattle.std.proofs.{lemmas.Bool.{and_from, and_parts}, lemmas.List.Sorted.list_any-IsPermutation}
-use Rattle.vecmap_base.specs.Equality.{has_same_items, is_within}
-pub use Rattle.vecmap_base.proofs.EqualityLemmas.Sets.{Within, set_equality_laws, longer_not_within, set_lengths_differ, set_equal_by_half}
-use Rattle.vecmap_laws.proofs.SetRelations.{same_items}
+use Rattle.vecmap_base.{specs.Equality.{has_same_items, is_within}, proofs.EqualityLemmas.Sets.same_items}
 
 module _ {T : Type 0} (eq : T → T → Bool) (o : IsEquivalence eq) where
   -- The order of the elements makes no difference.

@@ -3,9 +3,8 @@ use Rattle.std.specs.{Prelude.{◌≡◌, ◌+◌, ℕ, nat_eq, Bool, true, ◌|
 use Rattle.std.{specs.Set.is_member, proofs.{Common.{sym, ◌∙◌, arith, length-append}, Math.Bool.{and_comm, or_comm}}}
 use Rattle.std.proofs.lemmas.{List.{Elements.length_all_zip, Filters.length-filter_both, Folds.list_any-append}, Map.Made.length-from_same_keys}
 use Rattle.vecmap_base.specs.{Equality.has_same_items, Items.{both, only}}
+use Rattle.vecmap_base.proofs.EqualityLemmas.{Relations.{distinct_both, is_member_both}, Sets.same_items}
 use Rattle.vecmap_set.proofs.OperatorLemmas.{is_member_union as member_of_union}
-pub use Rattle.vecmap_base.proofs.EqualityLemmas.Sets.{same_items}
-pub use Rattle.vecmap_base.proofs.EqualityLemmas.Relations.{is_member_both, both_empty_turned, distinct_both, distinct_only, distinct_union, distinct_symmetric_difference}
 
 module _ {T : Type 0} (eq : T → T → Bool) (o : IsEquivalence eq) where
   -- The elements in both lists do not depend on the order of the two lists, and neither do those in one or the other.

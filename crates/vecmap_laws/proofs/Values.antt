@@ -1,7 +1,6 @@
 -- A list of pairs is determined by its keys and its values, and a write of a value leaves the keys.
 use Rattle.std.proofs.Common.{◌≡◌, ℕ, suc, List, [], ◌∷◌, length, refl, zero, ap, ◌∙◌}
-use Rattle.vecmap_base.specs.Pairs.{with_value}
-pub use Rattle.vecmap_base.proofs.PairsLemmas.Values.{with_value_cons, keys_of_with_value}
+use Rattle.vecmap_base.{specs.Pairs.with_value, proofs.PairsLemmas.Values.with_value_cons}
 
 module _ {K V : Type 0} where
   -- A write of a value leaves the number of pairs.

@@ -2,7 +2,7 @@
 use Rattle.std.proofs.Common.{◌≡◌, ◌-◌, List, [], ◌∷◌, ◌++◌, Option, None, Some, ap, sym, drop, take, length, length-append, map, arith, refl}
 use Rattle.std.specs.{Iterator.YieldsFirstBy, Iterator.YieldsLastBy, List.slice_get, Option.option_map}
 use Rattle.vecmap_laws.specs.Pulls.{End, Pulls, PullsBy, back, front}
-pub use Rattle.vecmap_base.proofs.IndexLemmas.{slice_get_last}
+use Rattle.vecmap_base.proofs.IndexLemmas.{slice_get_last}
 
 -- The first and the last item of a list, and what each leaves if it is removed.
 module _ {T : Type 0} where

@@ -37,7 +37,7 @@ pub fn insertions_are_found<K: Eq, V>()
 ///
 /// A lookup finds the last value that the pairs give its key, or else the old one. No key moves, and new keys are
 /// appended in order. Pairs of distinct keys become the list of a map if they are inserted into an empty one.
-#[tactic(auto, using(crate::proofs::Puts::puts_append, vecmap_base::proofs::PairsLemmas::Keys::keys_of_puts, crate::proofs::Puts::puts_distinct, crate::proofs::Parts::lookup_made_last, crate::proofs::Parts::index_of_puts_kept, crate::proofs::Parts::index_of_puts))]
+#[tactic(auto, using(crate::proofs::Puts::puts_append, vecmap_base::proofs::PairsLemmas::Keys::keys_of_puts, vecmap_base::proofs::PairsLemmas::Parts::puts_distinct, crate::proofs::Parts::lookup_made_last, crate::proofs::Parts::index_of_puts_kept, crate::proofs::Parts::index_of_puts))]
 pub fn bulk_insertions_are_single_ones<K: Eq, V>()
     ensures one { (l : List (K × V)) (p : K × V) (pairs : List (K × V))
         → puts K.eq l (p ∷ pairs) ≡ puts K.eq (put K.eq l p.0 p.1) pairs }

@@ -6,7 +6,7 @@ ghost use Rattle.vecmap_base.specs.{Clones.AreClones, Items.{add, without_first}
 /// If each clone of an element is equal to it, the same elements are present in clones of a list.
 ///
 /// Clones that are the same as their originals, such as clones of numbers, make the same list.
-#[tactic(auto, using(crate::proofs::ItemMembers::is_member_clones))]
+#[tactic(auto, using(vecmap_base::proofs::ItemsLemmas::Changes::is_member_clones))]
 pub fn clones_have_the_same_members<T: Eq + Clone>()
     ensures members { (l m : List T)
         → ((x y : T) → Contains l x → T.is_clone x y → IsTrue (T.eq x y))

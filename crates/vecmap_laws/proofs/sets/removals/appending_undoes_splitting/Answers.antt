@@ -1,5 +1,5 @@
 use Rattle.std.{specs.List.IsDistinct, proofs.{Common.{drop, take, subst, sym, ◌∙◌}, lemmas.List.take-append-drop}}
-use Rattle.vecmap_laws.proofs.ItemAdditions.{adds_apart}
+use Rattle.vecmap_base.proofs.ItemsLemmas.Additions.{adds_apart}
 use Rattle.vecmap_laws.proofs.sets.removals.appending_undoes_splitting.Goals as goal
 
 pub returns : goal.returns
