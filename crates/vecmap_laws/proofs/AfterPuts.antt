@@ -1,11 +1,19 @@
 -- What is found, and at which index, after one insertion and after many.
-use Rattle.vecmap_base.specs.Pairs.{HasDistinctKeys, index_of, index_or_length, lookup, put, put_key, puts, value_at, without_key}
-use Rattle.vecmap_base.proofs.PairsLemmas.{ByIndex.{lookup_by_index, put_by_index}, Indices.is_some_index_of, Keys.{index_of_is, keys_of_put}, Lookups.updates_put, Parts.joins_of_puts, Puts.{put_some, put_stored}, Updates.put_key_finds_as_put}
-use Rattle.std.specs.{Cmp.IsEquivalence, List.list_any, Map.keys_of, Option.option_and_then, Option.option_map, Option.option_map_or, Option.option_or}
-use Rattle.std.proofs.Common.{◌≡◌, ◌<◌, ◌+◌, ℕ, Bool, true, List, [], ◌∷◌, ◌++◌, Option, None, Some, if◌then◌else◌, is_some, length, slice_get, unwrap_or, refl, sym, ap, ◌∙◌, arith, length-append, true≢false}
-use Rattle.std.proofs.{lemmas.{List.length-map, Map.Made.is_some-lookup, Option.slice_get-map}, lemmas.Map.lookup-remove_entry}
-use Rattle.vecmap_laws.proofs.{Indices.index_of_none, ItemRemovals.without_item_absent, Values.length_with_value}
-use Rattle.vecmap_laws.proofs.{ItemIndices.{item_index_add, item_index_congr, item_index_own}, Keys.keys_of_without_key}
+use Rattle.std.specs.{Cmp.IsEquivalence, List.list_any, Option.{option_and_then, option_map, option_map_or, option_or}}
+use Rattle.std.specs.Map.{keys_of}
+use Rattle.std.proofs.Common.{Bool, List, None, Option, Some, [], ap, arith, if◌then◌else◌, is_some, length, length-append, refl, slice_get, suc, sym, true, true≢false, unwrap_or, zero, ℕ, ◌++◌, ◌+◌, ◌<◌, ◌∙◌, ◌∷◌, ◌≡◌}
+use Rattle.std.proofs.lemmas.{List.length-map, Map.{Made.is_some-lookup, lookup-remove_entry}, Option.slice_get-map}
+use Rattle.vecmap_base.specs.Pairs.{HasDistinctKeys, index_of, index_or_length, lookup, put, put_key, puts, value_at, with_value, without_key}
+use Rattle.vecmap_base.proofs.PairsLemmas.{ByIndex.{lookup_by_index, put_by_index}, Indices.is_some_index_of, Keys.{index_of_is, keys_of_put}, Lookups.updates_put, Parts.joins_of_puts, Puts.{put_some, put_stored}, Updates.put_key_finds_as_put, Values.with_value_cons}
+use Rattle.vecmap_laws.proofs.{ItemIndices.{item_index_add, item_index_congr, item_index_own}, KeyIndices.index_of_none}
+use Rattle.vecmap_laws.proofs.{ItemQueries.without_item_absent, OneMore.keys_of_without_key}
+
+module _ {K V : Type 0} where
+  -- A write of a value leaves the number of pairs.
+  pub length_with_value : (l : List (K × V)) (i : ℕ) (v : V) → length (with_value l i v) ≡ length l
+  length_with_value [] i v = refl
+  length_with_value (p ∷ ps) zero v = refl
+  length_with_value (p ∷ ps) (suc i) v = ap length (with_value_cons p ps i v) ∙ ap suc (length_with_value ps i v)
 
 pub option_or_assoc : {X : Type 0} (a b c : Option X) → option_or (option_or a b) c ≡ option_or a (option_or b c)
 option_or_assoc None b c = refl

@@ -6,9 +6,9 @@ use Rattle.vecmap_base.specs.contracts.equivalent.RefStrEquivalent.TheImpl.{equi
 use Rattle.std.proofs.Common.{rules, ◌≡◌, ◌∙◌, ℕ, Bool, String, List, None, Some, IsSome, IsTrue, bytes_eq, eqb-true, false, if◌then◌else◌, nat_eq, refl, string_eq, subst, sym, true}
 use Rattle.vecmap_base.specs.{Pairs.{HasDistinctKeys, has_text, lookup, lookup_by, put, without_by}, Equality.has_same_counts}
 use Rattle.vecmap_base.proofs.PairsLemmas.Updates.{updates_write}
-use Rattle.vecmap_laws.proofs.{Equations.put_put, MapEquality.lookups_of_equal, Lookups.lookup_without_apart, TextQueries.same_texts}
-use Rattle.vecmap_laws.proofs.Queries.{lookup_put_any_query, lookup_without_query, string_equality, text_respects}
-use Rattle.vecmap_laws.proofs.WriteLemmas.{lookup_written_other_text, texts_apart}
+use Rattle.vecmap_laws.proofs.{Lookups.lookup_without_apart, WriteLemmas.{lookup_written_other_text, texts_apart}}
+use Rattle.vecmap_laws.proofs.{MapEquality.lookups_of_equal, Puts.put_put}
+use Rattle.vecmap_laws.proofs.Queries.{lookup_put_any_query, lookup_without_query, same_texts, string_equality, text_respects}
 
 module _ {A V : Type 0} where
   pub put_put_of_texts : (l : List (String A × V)) (k : String A) (v w : V) → put string_eq (put string_eq l k v) k w ≡ put string_eq l k w

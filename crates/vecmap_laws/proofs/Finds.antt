@@ -1,17 +1,22 @@
 -- What lookups find after each call, as equations that `grind` applies from left to right. `Rules` has lists of them.
-use Rattle.std.specs.{Cmp.IsEquivalence, List.IsDistinct, List.Sorted.SwapsInRange, List.Sorted.apply_swaps, Set.is_member, Prelude.nat_lt}
-use Rattle.std.proofs.Common.{◌≡◌, ◌<◌, ◌&&◌, not, ℕ, suc, zero, Bool, true, false, List, [], ◌∷◌, Option, None, Some, if◌then◌else◌, length, refl, sym, ap, ◌∙◌, arith, is_some, take, drop, remove, reverse, swap}
+use Rattle.std.specs.{Cmp.IsEquivalence, List.{IsDistinct, Sorted.{IsPermutation, SwapsInRange, apply_swaps}}}
+use Rattle.std.specs.{Prelude.nat_lt, Set.is_member}
+use Rattle.std.proofs.Common.{Bool, List, None, Option, Some, [], ap, arith, drop, false, if◌then◌else◌, is_some, length, not, refl, remove, reverse, suc, swap, sym, take, true, zero, ℕ, ◌&&◌, ◌<◌, ◌∙◌, ◌∷◌, ◌≡◌}
 use Rattle.std.proofs.lemmas.{Bool.Decides.nat_tests, List.Sorted.IsPermutation-reverse}
 use Rattle.vecmap_base.specs.Items.{swap_without, swap_without_item, without_item}
 use Rattle.vecmap_base.specs.Pairs.{HasDistinctKeys, index_of, index_or_length, lookup, put_at, put_key, swap_without_key, without_key}
-use Rattle.vecmap_base.proofs.PairsLemmas.{Distinct.distinct_keys_rearranged, Parts.lookup_by_take}
+use Rattle.vecmap_base.proofs.PairsLemmas.{Distinct.distinct_keys_rearranged, Order.lookup_by_rearranged, Parts.lookup_by_take}
 use Rattle.vecmap_base.proofs.RemovalLemmas.{swap_removes_by}
-use Rattle.vecmap_laws.proofs.{AfterPuts.{is_some_lookup, lookup_put_any, lookup_put_key}, Indices.index_or_length_cons}
+use Rattle.vecmap_laws.proofs.{AfterPuts.{is_some_lookup, lookup_put_any, lookup_put_key}, Lookups.lookup_congr}
 use Rattle.vecmap_laws.proofs.{DistinctKeys.distinct_keys_without, HeadLemmas.{head_has_no_value, rest_is_distinct}}
-use Rattle.vecmap_laws.proofs.{Inserted.lookup_put_at, Lookups.lookup_congr, Recursion.lookup_cons}
-use Rattle.vecmap_laws.proofs.{Order.lookup_rearranged, RemovalLemmas.{is_member_by_test, remove_leaves, swap_leaves}}
+use Rattle.vecmap_laws.proofs.{Inserted.lookup_put_at, RemovalLemmas.{is_member_by_test, remove_leaves, swap_leaves}}
+use Rattle.vecmap_laws.proofs.{KeyIndices.index_or_length_cons, OneMore.lookup_cons}
 
 module _ {K V : Type 0} (eq : K → K → Bool) (o : IsEquivalence eq) where
+  -- If all keys are distinct, lookups do not depend on the order.
+  pub lookup_rearranged : (l m : List (K × V)) → IsPermutation l m → HasDistinctKeys eq l → (q : K) → lookup eq m q ≡ lookup eq l q
+  lookup_rearranged l m moved d q = lookup_by_rearranged eq o (eq q) (o.congr q) l m moved d
+
   pub lookup_swap_without_key : (l : List (K × V)) (k q : K) → HasDistinctKeys eq l → lookup eq (swap_without_key eq l k) q ≡ (if eq k q then None else lookup eq l q)
   lookup_swap_without_key l k q d = ((swap_removes_by (eq k) l eq o (o.congr k) (swap_without_key eq l k) refl).updates d).lookups q
 

@@ -1,11 +1,17 @@
 -- Which elements are present, and at which indices, after one addition and after many. Many additions append those of
 -- the new elements that are not present.
-use Rattle.std.proofs.{lemmas.Grind.common_steps, lemmas.{Bool.cases_Bool, List.append-nil, List.append_assoc, List.Folds.list_any-append}}
-use Rattle.std.specs.{Set.is_member, Cmp.IsEquivalence, Option.option_or}
-use Rattle.std.proofs.Common.{◌≡◌, ◌<◌, ◌+◌, ℕ, Bool, false, ◌||◌, List, [], ◌∷◌, ◌++◌, Some, length, option_map, slice_get, suc, zero, refl, sym, ap, ◌∙◌, arith}
+use Rattle.std.specs.{Cmp.IsEquivalence, Option.option_or, Set.is_member}
+use Rattle.std.proofs.Common.{Bool, List, Some, [], ap, arith, false, length, option_map, position, refl, slice_get, suc, sym, zero, ℕ, ◌++◌, ◌+◌, ◌<◌, ◌||◌, ◌∙◌, ◌∷◌, ◌≡◌}
+use Rattle.std.proofs.lemmas.{Bool.cases_Bool, Grind.common_steps, List.{Folds.list_any-append, Sums.fold-append, append-nil, append_assoc}}
 use Rattle.vecmap_base.specs.Items.{add, adds, item_index, only}
+use Rattle.vecmap_base.proofs.IndexLemmas.{position_cons}
 use Rattle.vecmap_base.proofs.ItemsLemmas.{Additions.{add_absent, add_present}, Members.members_of_add}
-use Rattle.vecmap_laws.proofs.PositionLemmas.{position_append}
+
+module _ {X : Type 0} (p : X → Bool) where
+  -- In a list of two parts, an item passes in the first part, or else in the second.
+  pub position_append : (xs ys : List X) → position p (xs ++ ys) ≡ option_or (position p xs) (option_map (λ i. length xs + i) (position p ys))
+  position_append [] ys = grind (arith, option_map, position_cons)
+  position_append (x ∷ xs) ys = grind (arith, option_map, position_cons, (position_append xs ys))
 
 -- An item of the front of a list is at its index in the whole list.
 pub slice_get_append : {T : Type 0} (s t : List T) (i : ℕ) → i < length s → slice_get (s ++ t) i ≡ slice_get s i
@@ -46,3 +52,8 @@ module _ {T : Type 0} (eq : T → T → Bool) where
     -- After an addition, an element is present if it was, or if it is equal to the added one.
     pub is_member_add : (s : List T) (x y : T) → is_member eq (add eq s x) y ≡ (is_member eq s y || eq x y)
     is_member_add s x y = grind (arith, common_steps, members_of_add)
+
+module _ {T : Type 0} (eq : T → T → Bool) where
+  -- Elements that are added in two parts are added as a whole.
+  pub adds_append : (s xs ys : List T) → adds eq s (xs ++ ys) ≡ adds eq (adds eq s xs) ys
+  adds_append s xs ys = fold-append (add eq) s xs ys

@@ -1,8 +1,9 @@
 -- What insertions make of a list, one at a time and many in order.
 use Rattle.std.specs.{Cmp.IsEquivalence, Option.option_map_or}
-use Rattle.std.proofs.Common.{arith, ◌≡◌, ℕ, ◌-◌, Bool, List, ◌++◌, None, Some, insert, length, min, remove, drop, take, ap}
-use Rattle.std.proofs.lemmas.{List.take-append-drop, List.Sums.fold-append}
-use Rattle.vecmap_base.{specs.Pairs.{HasDistinctKeys, index_of, put, put_at, puts}, proofs.PairsLemmas.Parts.puts_apart}
+use Rattle.std.proofs.Common.{Bool, List, None, Some, [], ap, arith, drop, insert, length, min, remove, take, ℕ, ◌++◌, ◌-◌, ◌∷◌, ◌≡◌}
+use Rattle.std.proofs.lemmas.List.{Sums.fold-append, take-append-drop}
+use Rattle.vecmap_base.specs.Pairs.{HasDistinctKeys, index_of, put, put_at, puts}
+use Rattle.vecmap_base.proofs.PairsLemmas.{Parts.puts_apart, Recursion.put_cons}
 
 module _ {K V : Type 0} (eq : K → K → Bool) where
   -- If the key is absent, the pair is inserted at `i`.
@@ -21,3 +22,8 @@ module _ {K V : Type 0} (eq : K → K → Bool) where
     -- If a list of distinct keys is split, the insertion of the second part into the first restores it.
     pub puts_restore : (l : List (K × V)) (at : ℕ) → HasDistinctKeys eq l → puts eq (take at l) (drop at l) ≡ l
     puts_restore l at d = grind (arith, take-append-drop, puts_apart)
+
+    -- Two insertions of a key are the second one.
+    pub put_put : (l : List (K × V)) (k : K) (v w : V) → put eq (put eq l k v) k w ≡ put eq l k w
+    put_put [] k v w = grind (arith, put_cons)
+    put_put (p ∷ ps) k v w = grind (arith, put_cons, (put_put ps k v w))

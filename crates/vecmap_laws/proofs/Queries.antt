@@ -1,7 +1,10 @@
--- What a query finds that matches exactly the keys that are equal to one of its matches.
-use Rattle.std.specs.{declared.alloc.Global.Global, Cmp.{IsEquivalence, on_equiv, Lexicographic.nat_list_eq_equiv}, Map.IsKeyTest}
-use Rattle.std.proofs.Common.{◌≡◌, ℕ, Bool, false, List, None, Some, String, IsTrue, bytes_eq, if◌then◌else◌, string_bytes, string_eq, ap, refl, ◌∙◌}
-use Rattle.vecmap_base.{specs.Pairs.{HasDistinctKeys, has_text, lookup_by, put, without_by}, proofs.PairsLemmas.{Lookups.lookup_by_put, Updates.updates_of_without}}
+-- What a query finds that matches exactly the keys that are equal to one of its matches, such as a text.
+use Rattle.std.specs.{Cmp.{IsEquivalence, Lexicographic.nat_list_eq_equiv, on_equiv}, declared.alloc.Global.Global}
+use Rattle.std.specs.Map.{IsKeyTest}
+use Rattle.std.proofs.Common.{Bool, IsTrue, List, None, Some, String, ap, bytes_eq, false, if◌then◌else◌, refl, string_bytes, string_eq, true, ℕ, ◌∙◌, ◌≡◌}
+use Rattle.std.proofs.lemmas.Slice.Eq.{bytes_eq-Decides}
+use Rattle.vecmap_base.specs.Pairs.{HasDistinctKeys, has_text, lookup_by, put, without_by}
+use Rattle.vecmap_base.proofs.PairsLemmas.{Lookups.lookup_by_put, Updates.updates_of_without}
 
 module _ {K V : Type 0} (eq : K → K → Bool) (o : IsEquivalence eq) (test : K → Bool) (respects : IsKeyTest eq test) where
   -- After the removal of its match from a list of distinct keys, the query matches nothing.
@@ -29,3 +32,7 @@ same_text text x e = ap (bytes_eq text) e ∙ nat_list_eq_equiv.refl text
 
 pub string_equality : IsEquivalence {K = String Global} string_eq
 string_equality = on_equiv string_bytes nat_list_eq_equiv
+
+-- Texts whose bytes are equal are the same.
+pub same_texts : (text other : List ℕ) → bytes_eq text other ≡ true → text ≡ other
+same_texts text other = (bytes_eq-Decides text other).0

@@ -1,8 +1,9 @@
--- The elements that are in both of two lists, and those that are in only one of them.
-use Rattle.std.specs.{Prelude.{◌≡◌, ◌+◌, ℕ, nat_eq, Bool, true, ◌||◌, not, List, ◌++◌, length, refl}, Cmp.{IsEquivalence, nat_eq_equiv}, List.{AllZip, IsDistinct}}
-use Rattle.std.{specs.Set.is_member, proofs.{Common.{sym, ◌∙◌, arith, length-append}, Math.Bool.{and_comm, or_comm}}}
-use Rattle.std.proofs.lemmas.{List.{Elements.length_all_zip, Filters.length-filter_both, Folds.list_any-append}, Map.Made.length-from_same_keys}
-use Rattle.vecmap_base.specs.{Equality.has_same_items, Items.{both, only}}
+-- The elements that are in both of two lists, and those that are in only one of them, and lists that are equal as sets.
+use Rattle.std.specs.{Cmp.{IsEquivalence, nat_eq_equiv}, List.{AllZip, IsDistinct, Sorted.IsPermutation}, Set.is_member}
+use Rattle.std.specs.Prelude.{Bool, List, length, nat_eq, not, refl, true, ℕ, ◌++◌, ◌+◌, ◌||◌, ◌↔◌, ◌≡◌}
+use Rattle.std.proofs.{Common.{arith, length-append, sym, ◌∙◌}, Math.Bool.{and_comm, or_comm}}
+use Rattle.std.proofs.lemmas.{Bool.{and_from, and_parts}, List.{Elements.length_all_zip, Filters.length-filter_both, Folds.list_any-append, Sorted.list_any-IsPermutation}, Map.Made.length-from_same_keys}
+use Rattle.vecmap_base.specs.{Equality.{has_same_items, is_within}, Items.{both, only}}
 use Rattle.vecmap_base.proofs.EqualityLemmas.{Relations.{distinct_both, is_member_both}, Sets.same_items}
 use Rattle.vecmap_set.proofs.OperatorLemmas.{is_member_union as member_of_union}
 
@@ -34,3 +35,12 @@ module _ {T : Type 0} (eq : T → T → Bool) (o : IsEquivalence eq) where
 -- Clones of the common elements and of the others are as many as all elements.
 pub number_parts_add : (is_clone : ℕ → ℕ → Type 0) (a b s t : List ℕ) → AllZip is_clone (both nat_eq a b) s → AllZip is_clone (only nat_eq a b) t → length s + length t ≡ length a
 number_parts_add is_clone a b s t e f = omega (arith, length_all_zip is_clone (both nat_eq a b) s e, length_all_zip is_clone (only nat_eq a b) t f, length_both_only nat_eq nat_eq_equiv a b)
+
+module _ {T : Type 0} (eq : T → T → Bool) (o : IsEquivalence eq) where
+  -- The order of the elements makes no difference.
+  pub rearranged_sets_equal : (a b : List T) → IsPermutation a b → has_same_items eq a b ≡ true
+  rearranged_sets_equal a b p = same_items eq o a b (λ x. list_any-IsPermutation (eq x) a b p)
+
+  -- Two lists are equal as sets exactly if each is within the other.
+  pub equal_if_within_each_other : (a b : List T) → has_same_items eq a b ≡ true ↔ ((is_within eq a b ≡ true) × (is_within eq b a ≡ true))
+  equal_if_within_each_other a b = (and_parts (is_within eq a b) (is_within eq b a), λ p. and_from _ _ p.0 p.1)

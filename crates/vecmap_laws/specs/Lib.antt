@@ -2,5 +2,4 @@ pub mod Agreement
 pub mod Algebra
 pub mod FirstValue
 pub mod Pulls
-pub mod Removals
 pub mod TextPairs

@@ -8,7 +8,7 @@ ghost use Rattle.vecmap_base.specs.Pairs.{HasDistinctKeys, index_of, lookup, put
 ///
 /// The remaining pairs keep their order, unless the last pair is swapped in. The removal of an absent key changes
 /// nothing.
-#[tactic(auto, using(crate::proofs::Inserted::without_key_at, crate::proofs::OtherPairs::without_absent, crate::proofs::OtherPairs::without_not_found, crate::proofs::OtherPairs::swap_without_absent, crate::proofs::AfterPuts::index_of_without_key, crate::proofs::Keys::keys_of_without_key))]
+#[tactic(auto, using(crate::proofs::Inserted::without_key_at, crate::proofs::OtherPairs::without_absent, crate::proofs::OtherPairs::without_not_found, crate::proofs::OtherPairs::swap_without_absent, crate::proofs::AfterPuts::index_of_without_key, crate::proofs::OneMore::keys_of_without_key))]
 pub fn removals_are_forgotten<K: Eq, V>()
     ensures value { (l : List (K × V)) → HasDistinctKeys K.eq l → (k : K)
         → lookup K.eq (without_key K.eq l k) k ≡ None }

@@ -23,7 +23,7 @@ pub fn additions_move_nothing<T: Eq>()
 
 /// Adding many elements is the same as adding each of them in order. Distinct elements that are added to an empty set
 /// are its list.
-#[tactic(auto, using(crate::proofs::ItemAdditions::adds_append, vecmap_base::proofs::ItemsLemmas::Additions::adds_distinct))]
+#[tactic(auto, using(crate::proofs::ItemMembers::adds_append, vecmap_base::proofs::ItemsLemmas::Additions::adds_distinct))]
 pub fn bulk_additions_are_single_ones<T: Eq>()
     ensures one { (s : List T) (x : T) (xs : List T)
         → adds T.eq s (x ∷ xs) ≡ adds T.eq (add T.eq s x) xs }

@@ -1,6 +1,6 @@
 use Rattle.std.proofs.Common.{◌∙◌, ◌++◌, ◌∷◌, [], ap, sym}
 use Rattle.vecmap_base.specs.Items.{adds}
-use Rattle.vecmap_laws.proofs.ItemAdditions.{adds_append}
+use Rattle.vecmap_laws.proofs.ItemMembers.{adds_append}
 use Rattle.vecmap_set.proofs.MemberLemmas.{adds_items}
 use Rattle.vecmap_laws.proofs.sets.insertions.collecting_one_more_is_extending.Goals as goal
 

@@ -1,5 +1,4 @@
-use Rattle.vecmap_laws.proofs.AdditionQueries.{index_after_any, index_after_other, index_after_own}
-use Rattle.vecmap_laws.proofs.ItemQueries.{tells_as, without_query_absent}
+use Rattle.vecmap_laws.proofs.ItemQueries.{index_after_any, index_after_other, index_after_own, tells_as, without_query_absent}
 use Rattle.vecmap_laws.proofs.sets.lookups.queries_find_as_elements.Goals as goal
 
 pub returns : goal.returns
