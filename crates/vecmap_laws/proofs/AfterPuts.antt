@@ -1,4 +1,4 @@
--- What is found, and at which index, after one insertion and after many.
+-- What is found, and at which index, after one insertion, after many, and after a removal.
 use Rattle.std.specs.{Cmp.IsEquivalence, List.list_any, Option.{option_and_then, option_map, option_map_or, option_or}}
 use Rattle.std.specs.Map.{keys_of}
 use Rattle.std.proofs.Common.{Bool, List, None, Option, Some, [], ap, arith, if◌then◌else◌, is_some, length, length-append, refl, slice_get, suc, sym, true, true≢false, unwrap_or, zero, ℕ, ◌++◌, ◌+◌, ◌<◌, ◌∙◌, ◌∷◌, ◌≡◌}

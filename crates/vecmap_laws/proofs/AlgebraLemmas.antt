@@ -1,5 +1,5 @@
--- What `intersection` and `union` yield, whichever of two lists is longer. The idea: a fact about two lists in either
--- order is one about the shorter and the other.
+-- What `intersection` and `union` yield, whichever of two lists is longer, and what `^` makes of two collected sets. The
+-- idea: a fact about two lists in either order is one about the shorter and the other.
 use Rattle.std.specs.{Set.is_member, Cmp.IsEquivalence, List.IsDistinct}
 use Rattle.std.proofs.Common.{◌≡◌, ◌+◌, ◌∙◌, Bool, true, ◌&&◌, ◌||◌, List, [], arith, length, nat_lt, not}
 use Rattle.vecmap_base.specs.{Equality.has_same_items, Items.{adds, both}}

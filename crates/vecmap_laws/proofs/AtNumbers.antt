@@ -1,5 +1,5 @@
--- The lemmas of the rulesets of lookups and of members, at numbers: `grind` sees the `==` of numbers as it computes, so it
--- matches a lemma that is stated of it, and not one of any `==`.
+-- The lemmas of the rulesets at numbers: `grind` sees the `==` of numbers as it computes, so it matches a lemma that is
+-- stated of it, and not one of any `==`.
 use Rattle.std.specs.{Cmp.nat_eq_equiv, List.IsDistinct, List.Sorted.SwapsInRange, List.Sorted.apply_swaps, Map.keys_of, Option.{option_and_then, option_or}, Set.is_member}
 use Rattle.std.proofs.Common.{◌≡◌, ◌∙◌, ◌++◌, ◌∷◌, ◌<◌, ◌&&◌, ◌||◌, not, ℕ, false, List, None, Some, IsTrue, ap, arith, eqb-true, if◌then◌else◌, is_some, take, drop, length, nat_eq, reverse, slice_get, swap, sym}
 use Rattle.std.proofs.lemmas.Grind.{common_steps}

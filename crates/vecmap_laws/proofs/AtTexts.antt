@@ -1,5 +1,5 @@
--- The lemmas of the rulesets of lookups and of members, at texts: `grind` sees the `==` of texts as it computes, so it
--- matches a lemma that is stated of it, and not one of any `==`.
+-- The lemmas of the rulesets at texts: `grind` sees the `==` of texts as it computes, so it matches a lemma that is
+-- stated of it, and not one of any `==`.
 use Rattle.std.specs.{String.string_eq_equiv, Borrow.Bor, Cmp.{Lexicographic.nat_list_eq_equiv, nat_eq_equiv, on_equiv}, Map.set_value, declared.alloc.Global.Global}
 use Rattle.std.specs.contracts.prelude.RefStrPartialEq.TheImpl.{eq-value}
 use Rattle.vecmap_base.specs.contracts.equivalent.RefStrEquivalent.TheImpl.{equivalent-value}

@@ -1,4 +1,4 @@
--- A map is equal to its clone, if clones are equal to their originals.
+-- A map is equal to itself, and to its clone if clones are equal to their originals.
 use Rattle.std.proofs.{lemmas.Grind.common_steps, Common.{arith, ◌≡◌, Bool, true, List, [], ◌∷◌, ◌∙◌}}
 use Rattle.std.proofs.lemmas.Map.Entries.{entries_from_clone}
 use Rattle.std.specs.{Cmp.IsEquivalence, Cmp.nat_eq_equiv, Prelude.{ℕ, nat_eq}}

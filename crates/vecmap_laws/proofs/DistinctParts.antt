@@ -1,4 +1,4 @@
--- Distinct keys stay distinct in parts of a list, without one of them, and in what a closure that writes no key keeps.
+-- Distinct keys stay distinct in parts of a list, without one of them, and in the pairs that pass a test.
 use Rattle.std.specs.{List.{IsDistinct, remove_range}, Map.keys_of}
 use Rattle.std.proofs.Common.{◌≡◌, ℕ, ◌≤◌, ◌-◌, Bool, List, ◌++◌, drop, filter, slice_range, take, subst, sym, ◌∙◌}
 use Rattle.std.proofs.lemmas.{List.{drop-map, map-append, take-map}, Map.Made.IsDistinct-keys_filter}

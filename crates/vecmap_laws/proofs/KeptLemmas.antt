@@ -1,4 +1,4 @@
--- What a closure leaves of a list if each call returns the result of a test, or writes the item in the same way.
+-- What a closure leaves of a list if each call returns the result of a test, and writes nothing.
 use Rattle.std.{specs.Prelude.{◌≡◌, Bool, List, [], ◌∷◌, filter, if◌then◌else◌, refl}, proofs.Common.◌∙◌}
 use Rattle.vecmap_base.specs.Kept.{Kept}
 

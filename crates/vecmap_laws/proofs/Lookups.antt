@@ -1,4 +1,4 @@
--- What a lookup finds after an insertion and after a removal.
+-- What a lookup finds of one pair more, of an absent and of an equal key, after an insertion and after a removal.
 use Rattle.std.specs.{Cmp.IsEquivalence, List.list_any, Map.keys_of}
 use Rattle.std.proofs.Common.{arith, ◌≡◌, Bool, true, false, List, [], ◌∷◌, None, Option, Some, is_some, if◌then◌else◌, refl, sym, ap, ◌∙◌, true≢false}
 use Rattle.vecmap_base.specs.{Pairs.HasDistinctKeys, Pairs.lookup, Pairs.lookup_by, Pairs.put, Pairs.without_by, Pairs.without_key}

@@ -1,4 +1,4 @@
--- What a binary search of a map says of the index of its key.
+-- What a binary search of a map says of the index of its key, and the order after an insertion where it ends.
 use Rattle.std.proofs.Common.{nat_cmp, ◌≡◌, ◌≤◌, ℕ, Bool, true, List, [], ◌∷◌, Err, None, Ok, Result, ap, arith, is_some, insert, length, refl, slice_index_or, sym, subst, ◌∙◌}
 use Rattle.std.proofs.lemmas.{List.Folds.list_any_at}
 use Rattle.std.specs.{Cmp.{IsTotalOrder, nat_cmp_total, unsigned_ties}, Prelude.nat_eq, declared.cmp.Ordering.Ordering}
