@@ -1,3 +1,2 @@
 pub mod InternerLemmas
-pub mod OptionLemmas
 pub mod ScopeLemmas
