@@ -1,4 +1,3 @@
-pub mod BufferLemmas
 pub mod CommandLemmas
 pub mod ServiceLemmas
 pub mod TextLemmas

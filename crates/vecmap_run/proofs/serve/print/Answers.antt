@@ -1,7 +1,15 @@
-use Rattle.std.proofs.{Common.{◌≡◌, ◌∙◌, [], ap, rules}, KnownBytes.Appends-of_writes, lemmas.Result.on_ok_weaker}
-use Rattle.std.specs.Io.KnownBytes.{append_known}
-use Rattle.vecmap_run.{specs.Buffer.buffer_bytes, proofs.BufferLemmas.Appends-sent}
+use Rattle.std.proofs.{Common.{◌≡◌, ◌∙◌, List, ℕ, [], None, Option, Some, ap, append-nil, rules}, KnownBytes.Appends-of_writes}
+use Rattle.std.{proofs.lemmas.Result.on_ok_weaker, specs.Io.KnownBytes.{Appends, append_known}}
+use Rattle.vecmap_run.specs.Buffer.{buffer_bytes}
 use Rattle.vecmap_run.proofs.serve.print.Goals as goal
+
+-- Sending moves the gathered bytes to the writer, so that what was held, with the gathered bytes, is held by the writer
+-- alone.
+Appends-sent : (start old new : Option (List ℕ)) (gathered text : List ℕ) → Appends (append_known start []) (append_known old gathered) text → Appends old new gathered → Appends start new text
+Appends-sent None old new gathered text held sent = tt
+Appends-sent (Some s) None new gathered text held sent = absurd held
+Appends-sent (Some s) (Some o) None gathered text held sent = absurd sent
+Appends-sent (Some s) (Some o) (Some n) gathered text held sent = rw append-nil at (sent ∙ held)
 
 pub returns : goal.returns
 returns g c =
