@@ -6,7 +6,6 @@ pub mod DuplicatesLemmas
 pub mod EqualityLemmas
 pub mod ItemsLemmas
 pub mod KeptLemmas
-pub mod LoopLemmas
 pub mod MatchingLemmas
 pub mod MoveLemmas
 pub mod PairsLemmas

@@ -3,8 +3,8 @@ use Rattle.std.specs.{Prelude.{◌≡◌, Bool, Err, List, Ok, OnErr, Result, []
 use Rattle.std.proofs.{Common.{subst, sym}, lemmas.Map.Steps.lookup-le-sum}
 use Rattle.vecmap_base.specs.Pairs.{HasDistinctKeys}
 use Rattle.vecmap_base.proofs.DistinctLemmas.{Absent.distinct_none, Additions.{distinct_add, distinct_adds}}
-use Rattle.vecmap_base.proofs.{ItemsLemmas.Members.is_member_adds, LoopLemmas.key_stays}
-use Rattle.vecmap_base.proofs.PairsLemmas.{Distinct.{distinct_keys_remove, distinct_put}, Keys.{keys_of_put, keys_of_puts}, Updates.distinct_put_key}
+use Rattle.vecmap_base.proofs.ItemsLemmas.Members.{is_member_adds}
+use Rattle.vecmap_base.proofs.PairsLemmas.{Distinct.{distinct_keys_remove, distinct_put}, Keys.{keys_of_put, keys_of_puts}, Updates.distinct_put_key, Values.key_stays}
 use Rattle.vecmap_laws.proofs.AfterPuts.{index_of_congr, index_of_put, lookup_put_any, lookup_puts_distinct, lookup_without_any}
 use Rattle.vecmap_laws.proofs.{AlgebraLemmas.is_member_of_collected, AtTexts.{lookups_of_equal_texts, put_put_of_texts}}
 use Rattle.vecmap_laws.proofs.AtNumbers.{absent_among_numbers, lookup_written_at_of_numbers, lookups_of_equal_numbers, put_put_of_numbers, restored_of_numbers}

@@ -4,8 +4,7 @@ use Rattle.std.specs.{List.SwappedAt, Map.keys_of, Map.values_of}
 use Rattle.std.proofs.Common.{◌≡◌, ℕ, ◌+◌, ◌-◌, ◌<◌, ◌≤◌, Bool, Some, List, [], ◌∷◌, ◌++◌, drop, length, swap, take, set, get_or, sym, ap, ◌∙◌, arith}
 use Rattle.std.proofs.lemmas.List.{drop-map, get_or-map, map-append, map-set, take-map, length-append, take_more, take-set-le, drop-set-lt, drop_more, length-set, set-append_left, set-append_right, get_or_append_left, get_or-append_right}
 use Rattle.vecmap_base.specs.Pairs.{index_of, put, with_value}
-use Rattle.vecmap_base.proofs.LoopLemmas.{key_stays}
-use Rattle.vecmap_base.proofs.PairsLemmas.{Puts.put_present, Values.keys_of_with_value, Values.same_pairs, Values.values_of_with_value}
+use Rattle.vecmap_base.proofs.PairsLemmas.{Puts.put_present, Values.{key_stays, keys_of_with_value, same_pairs, values_of_with_value}}
 
 module _ {X : Type 0} where
   -- A swap, seen in a front that holds only the first of the two indices.

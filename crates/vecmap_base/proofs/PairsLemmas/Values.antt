@@ -30,6 +30,11 @@ module _ {K V : Type 0} where
   keys_of_with_value (p ∷ ps) zero v = refl
   keys_of_with_value (p ∷ ps) (suc i) v = ap keys_of (with_value_cons p ps i v) ∙ ap (λ ks. p.0 ∷ ks) (keys_of_with_value ps i v)
 
+  pub key_stays : (l : List (K × V)) (i : ℕ) (p : K × V) (v : V) → keys_of (set l i ((get_or l i p).0, v)) ≡ keys_of l
+  key_stays [] i p v = refl
+  key_stays (q ∷ qs) zero p v = refl
+  key_stays (q ∷ qs) (suc i) p v = ap (λ ks. q.0 ∷ ks) (key_stays qs i p v)
+
   pub values_of_with_value : (l : List (K × V)) (i : ℕ) (v : V) → values_of (with_value l i v) ≡ set (values_of l) i v
   values_of_with_value [] i v = refl
   values_of_with_value (p ∷ ps) zero v = refl
