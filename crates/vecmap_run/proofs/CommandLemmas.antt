@@ -5,7 +5,7 @@ use Rattle.std.proofs.Common.{None, Ok, Option, Result, Some, false, get_or, len
 use Rattle.std.proofs.{Common.{◌∙◌, ap, arith, length-append, lit<, refl, rules, subst, sym}, Math.Seq.get_or-append_seam}
 use Rattle.std.proofs.{lemmas.Bool.Decides.nat_tests, lemmas.List.Folds.list_all_at, lemmas.Slice.Eq.bytes_eq-Decides}
 use Rattle.std.proofs.{lemmas.Str.Pattern.{IsSplitOnceResult, split_after, split_parts}, lemmas.Option.{cond_some, none-some}}
-use Rattle.std.proofs.{lemmas.Str.IsAscii-append, lemmas.Str.Parse.{IsNumeralModel, digits_value_short, numerals_by_value, parse_gives}}
+use Rattle.std.proofs.{lemmas.Str.{Ascii.IsAscii-cons, IsAscii-append}, lemmas.Str.Parse.{IsNumeralModel, digits_value_short, numerals_by_value, parse_gives}}
 use Rattle.std.specs.{Prelude.{bytes_eq, codes, if◌then◌else◌}, Char.{is_ascii_digit, is_ascii_graphic}, List.list_all, Str.IsAscii}
 use Rattle.std.specs.{Option.option_map, Str.Parse.{ParsesUnsigned, digits_value}}
 use Rattle.vecmap_run.specs.declared.command.Command.{Command}
@@ -125,14 +125,9 @@ key_ascii key is = ascii_all is_key_byte (λ b passes. grind (arith, nat_tests))
 number_ascii : (word : List ℕ) (n : ℕ) → number_of word ≡ Some n → IsAscii word
 number_ascii word n says = ascii_all is_ascii_digit (λ b passes. grind (arith, nat_tests)) word (number_parts word (cond_some (is_number word) _ n says).0).2
 
--- An ASCII byte before an ASCII text makes an ASCII text.
-ascii_after : (b : ℕ) (bs : List ℕ) → b < 128 → IsAscii bs → IsAscii (b ∷ bs)
-ascii_after b bs small rest zero = small
-ascii_after b bs small rest (suc i) = rest i
-
 -- Two ASCII texts with a space between them are ASCII.
 spaced_ascii : (front back : List ℕ) → IsAscii front → IsAscii back → IsAscii (front ++ 32 ∷ back)
-spaced_ascii front back first last = IsAscii-append front (32 ∷ back) first (ascii_after 32 back (lit< tt) last)
+spaced_ascii front back first last = IsAscii-append front (32 ∷ back) first (IsAscii-cons 32 back (lit< tt) last)
 
 -- If a mapped option is `Some`, so is the option.
 mapped_some : (f : ℕ → ℤ) (o : Option ℕ) (v : ℤ) → option_map f o ≡ Some v → (n : ℕ) × (o ≡ Some n)
@@ -142,7 +137,7 @@ mapped_some f (Some n) v some = (n, refl)
 value_ascii : (word : List ℕ) (v : ℤ) → value_of word ≡ Some v → IsAscii word
 value_ascii [] v says = λ i. lit< tt
 value_ascii (b ∷ bs) v says = elim (b == 45) as (λ minus. minus ≡ (b == 45) → (if minus then option_map (λ n. neg_ℤ (pos n)) (number_of bs) else option_map pos (number_of (b ∷ bs))) ≡ Some v → IsAscii (b ∷ bs)) [
-  | true ↦ λ is says. let (n, number) = mapped_some _ _ v says in ascii_after b bs (grind (arith, nat_tests)) (number_ascii bs n number)
+  | true ↦ λ is says. let (n, number) = mapped_some _ _ v says in IsAscii-cons b bs (grind (arith, nat_tests)) (number_ascii bs n number)
   | false ↦ λ is says. let (n, number) = mapped_some _ _ v says in number_ascii (b ∷ bs) n number
 ] refl says
 
