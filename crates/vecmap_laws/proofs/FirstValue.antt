@@ -3,9 +3,9 @@ use Rattle.std.proofs.Common.{arith, ◌≡◌, Bool, List, [], ◌∷◌, ◌++
 use Rattle.std.specs.{Cmp.IsEquivalence, Map.keys_of, Option.{option_and_then, option_or}}
 use Rattle.vecmap_base.proofs.{PairsLemmas.Keys.keys_of_put, PairsLemmas.ByIndex.lookup_by_index, PairsLemmas.Puts.put_absent}
 use Rattle.vecmap_laws.specs.FirstValue.{put_new, puts_new}
-use Rattle.vecmap_laws.proofs.{AfterPuts.{lookup_put_any, put_same}, Lookups.lookup_congr, OneMore.lookup_cons}
+use Rattle.vecmap_laws.proofs.{AfterPuts.{lookup_put_any, put_same}, ItemIndices.or_none, Lookups.lookup_congr}
+use Rattle.vecmap_laws.proofs.OneMore.{lookup_cons}
 use Rattle.vecmap_base.specs.{Items.adds, Pairs.{index_of, lookup, put, value_at}}
-use Rattle.vecmap_map.proofs.MadeLemmas.{or_none}
 
 module _ {K V : Type 0} (eq : K → K → Bool) where
   -- A key that is present keeps its value, and nothing changes.

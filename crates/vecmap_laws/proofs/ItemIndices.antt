@@ -5,7 +5,10 @@ use Rattle.vecmap_base.specs.Items.{add, item_index}
 use Rattle.vecmap_base.proofs.{ItemsLemmas.Recursion.item_index_cons, IndexLemmas.{is_some_position, position_none}}
 use Rattle.vecmap_set.proofs.IndexLemmas.{position_own}
 use Rattle.vecmap_laws.proofs.ItemMembers.{slice_get_append, item_index_append}
-use Rattle.vecmap_map.proofs.MadeLemmas.{or_none}
+
+pub or_none : {X : Type 0} (a : Option X) → option_or a None ≡ a
+or_none None = refl
+or_none (Some x) = refl
 
 module _ {T : Type 0} (eq : T → T → Bool) where
   -- An addition moves no element.

@@ -4,8 +4,7 @@ use Rattle.std.{proofs.lemmas.List.reverse-append, specs.{Cmp.IsEquivalence, Opt
 use Rattle.vecmap_base.specs.{Items.{adds, item_index}, Pairs.{index_of, lookup, put, puts}}
 use Rattle.vecmap_base.proofs.PairsLemmas.{Keys.{index_of_is, keys_of_puts}, Parts.lookup_by_append}
 use Rattle.vecmap_laws.proofs.{AfterPuts.{lookup_put_any, option_or_assoc}, ItemMembers.item_index_adds_kept}
-use Rattle.vecmap_laws.proofs.Lookups.{look}
-use Rattle.vecmap_map.proofs.MadeLemmas.{or_none}
+use Rattle.vecmap_laws.proofs.{ItemIndices.or_none, Lookups.look}
 
 module _ {K V : Type 0} (eq : K → K → Bool) where
   pub lookup_append : (a b : List (K × V)) (q : K) → lookup eq (a ++ b) q ≡ option_or (lookup eq a q) (lookup eq b q)

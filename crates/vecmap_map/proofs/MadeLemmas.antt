@@ -1,12 +1,8 @@
 -- What is in a map that is made of clones of pairs.
-use Rattle.std.{specs.{Cmp.IsEquivalence, Option.option_or}, proofs.Common.{◌≡◌, ◌∙◌, Bool, List, [], None, Option, Some, ap, arith, refl}}
+use Rattle.std.{specs.Cmp.IsEquivalence, proofs.Common.{◌≡◌, ◌∙◌, Bool, List, [], ap, arith}}
 use Rattle.std.proofs.lemmas.{Map.Entries.entries_from_clone, Slice.Zip.AllZip-long}
 use Rattle.vecmap_base.{specs.{Clones.{ArePairClones, IsPairClone}, Pairs.puts}, proofs.PairsLemmas.Parts.makes_pairs}
 use Rattle.vecmap_map.specs.MapBulk.{MakesClones}
-
-pub or_none : {X : Type 0} (a : Option X) → option_or a None ≡ a
-or_none None = refl
-or_none (Some x) = refl
 
 pub makes_clones : {K V : Type 0} (eq : K → K → Bool) (o : IsEquivalence eq) (key : K → K → Type 0) (value : V → V → Type 0) (pairs m clones : List (K × V)) → ArePairClones key value pairs clones → m ≡ puts eq [] clones → MakesClones eq key value pairs m
 makes_clones eq o key value pairs m clones are e =
