@@ -9,10 +9,6 @@ use Rattle.vecmap_base.proofs.{ItemsLemmas.{Members.members_of_first, Recursion.
 use Rattle.vecmap_laws.proofs.ItemIndices.{item_index_add}
 
 module _ {T : Type 0} (eq : T → T → Bool) (o : IsEquivalence eq) (test : T → Bool) (respects : IsKeyTest eq test) where
-  -- A query that matches `x` matches exactly the elements that are equal to `x`.
-  pub tells_as : (x : T) → IsTrue (test x) → test ≡ eq x
-  tells_as = compares_with eq o test respects
-
   -- After the removal of its match from a distinct list, a query matches nothing.
   pub without_query_absent : (s : List T) → IsDistinct eq s → list_any test (without_first test s) ≡ false
   without_query_absent s d = (members_of_first eq o test respects s _ (first_by_shift s (without_first test s) test refl) d).own
@@ -32,7 +28,7 @@ module _ {T : Type 0} (eq : T → T → Bool) (test : T → Bool) where
     -- After an addition of an element that matches, a query finds the index of an equal existing element, or the last index.
     pub index_after_own : (s : List T) (x : T) → IsTrue (test x) → position test (add eq s x) ≡ Some (unwrap_or (position test s) (length s))
     index_after_own s x h =
-        let same = tells_as eq o test respects x h in
+        let same = compares_with eq o test respects x h in
         ap (λ f. position f (add eq s x)) same
         ∙ item_index_add eq o s x x
         ∙ ap (λ b. if b then Some (unwrap_or (item_index eq s x) (length s)) else item_index eq s x) (o.refl x)

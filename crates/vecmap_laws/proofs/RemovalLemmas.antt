@@ -4,9 +4,10 @@ use Rattle.std.proofs.Common.{◌≡◌, ◌-◌, ℕ, Bool, true, false, ◌||�
 use Rattle.std.proofs.lemmas.{Map.Steps.list_any_congr, Option.get_or_from_slice_get, Option.slice_get_within}
 use Rattle.std.proofs.lemmas.List.Sorted.{IsPermutation-remove, IsPermutation-swap_remove, length_permutation, list_any-IsPermutation}
 use Rattle.std.specs.{Cmp.IsEquivalence, List.IsDistinct, List.list_any, List.swap_remove, List.Sorted.IsPermutation, Map.IsKeyTest, Option.option_map_or, Set.is_member}
-use Rattle.vecmap_base.proofs.{IndexLemmas.list_any_position, DistinctLemmas.Order.distinct_rearranged}
-use Rattle.vecmap_laws.proofs.{ItemQueries.tells_as, HeadLemmas.head_not_in_rest}
 use Rattle.vecmap_base.specs.Items.{swap_without}
+use Rattle.vecmap_base.proofs.{DistinctLemmas.Order.distinct_rearranged, PairsLemmas.Lookups.compares_with}
+use Rattle.vecmap_base.proofs.IndexLemmas.{list_any_position}
+use Rattle.vecmap_laws.proofs.HeadLemmas.{head_not_in_rest}
 use Rattle.vecmap_set.proofs.IndexLemmas.{found_item_at}
 
 -- The item at the first index that passes.
@@ -58,7 +59,7 @@ module _ {X : Type 0} (takes : List X → ℕ → List X) (leaves : (xs : List X
         none false c h = refl
 
         absent : position test s ≡ None → test y ≡ true → list_any (eq y) s ≡ false
-        absent e h = ap (λ f. list_any f s) (sym (tells_as eq o test respects y h)) ∙ list_any_position test s ∙ ap is_some e
+        absent e h = ap (λ f. list_any f s) (sym (compares_with eq o test respects y h)) ∙ list_any_position test s ∙ ap is_some e
 
         by : (found : Option ℕ) → position test s ≡ found → is_member eq (option_map_or (takes s) found s) y ≡ (is_member eq s y && not (test y))
         by None e = none (is_member eq s y) (test y) (absent e)

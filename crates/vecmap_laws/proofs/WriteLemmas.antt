@@ -4,10 +4,10 @@ use Rattle.std.specs.{Cmp.{IsEquivalence, Lexicographic.nat_list_eq_equiv}, decl
 use Rattle.std.specs.{Map.{IsKeyTest, set_value}, Option.option_map_or}
 use Rattle.std.proofs.Common.{arith, ◌≡◌, ℕ, suc, zero, slice_get, slice_set, Bool, List, [], ◌∷◌, Some, IsSome, true, ap, refl, sym, ◌∙◌, false, IsTrue, bytes_eq}
 use Rattle.std.proofs.{Common.{string_bytes, string_eq, String, subst, if◌then◌else◌}, lemmas.{Map.Steps.set_value_same, Option.{none-some, same_Some}}}
-use Rattle.vecmap_base.specs.Pairs.{index_of, put, has_text, index_by, lookup, lookup_by, with_value}
-use Rattle.vecmap_base.proofs.PairsLemmas.{ByIndex.{put_by_index, set_value_by_index, is_some_lookup_by}, Updates.updates_write}
+use Rattle.vecmap_base.specs.Pairs.{has_text, index_by, index_of, lookup, lookup_by, put, with_value}
+use Rattle.vecmap_base.proofs.PairsLemmas.{ByIndex.{is_some_lookup_by, put_by_index, set_value_by_index}, Lookups.compares_with, Updates.updates_write}
 use Rattle.vecmap_map.specs.Contents.{Contents, with_entries, with_value_of, with_value_by}
-use Rattle.vecmap_laws.proofs.{ItemQueries.tells_as, Queries.{string_equality, text_respects}}
+use Rattle.vecmap_laws.proofs.Queries.{string_equality, text_respects}
 
 module _ {K V : Type 0} (eq : K → K → Bool) where
   -- A write of the value of a key that is present is `put`.
@@ -31,7 +31,7 @@ module _ {K V : Type 0} (eq : K → K → Bool) (o : IsEquivalence eq) (test : K
   -- A write of the value that a query finds is `put` of each key that the query matches.
   pub with_value_by_is_put : (m : Contents K V) (k : K) (v : V) → IsTrue (test k) → IsSome (index_by test m.entries) → (with_value_by test m v).entries ≡ put eq m.entries k v
   with_value_by_is_put m k v h there =
-      let same = tells_as eq o test respects k h in
+      let same = compares_with eq o test respects k h in
       ap (λ f. (with_value_by f m v).entries) same ∙ with_value_of_is_put eq m k v (subst (λ f. IsSome (index_by f m.entries)) same there)
 
   -- The query finds the written value.
