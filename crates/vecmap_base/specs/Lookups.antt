@@ -11,7 +11,6 @@ module _ {K V : Type 0} (eq : K → K → Bool) where
   pub record UpdatesBy (test : K → Bool) (l m : List (K × V)) (w : Option V) : Type 0 where
     pub lookups : (q : K) → lookup eq m q ≡ cond (test q) w (lookup eq l q)
     pub own : lookup_by test m ≡ w
-    pub others : (q : K) → test q ≡ false → lookup eq m q ≡ lookup eq l q
     pub queries : KeepsOthers eq test l m
     pub distinct : HasDistinctKeys eq l → HasDistinctKeys eq m
     pub gone : w ≡ None → index_by test m ≡ None

@@ -1,6 +1,6 @@
 -- What a lookup finds of one pair more, of an absent and of an equal key, after an insertion and after a removal.
 use Rattle.std.specs.{Cmp.IsEquivalence, List.list_any, Map.keys_of}
-use Rattle.std.proofs.Common.{arith, ◌≡◌, Bool, true, false, List, [], ◌∷◌, None, Option, Some, is_some, if◌then◌else◌, refl, sym, ap, ◌∙◌, true≢false}
+use Rattle.std.proofs.Common.{arith, ◌≡◌, Bool, true, false, List, [], ◌∷◌, None, Option, Some, cond, is_some, if◌then◌else◌, refl, sym, ap, ◌∙◌, true≢false}
 use Rattle.vecmap_base.specs.{Pairs.HasDistinctKeys, Pairs.lookup, Pairs.lookup_by, Pairs.put, Pairs.without_by, Pairs.without_key}
 use Rattle.vecmap_base.proofs.PairsLemmas.{ByIndex.is_some_lookup_by, Indices.is_some_index_of, Lookups.updates_put, Updates.updates_of_without}
 
@@ -34,7 +34,7 @@ module _ {K V : Type 0} (eq : K → K → Bool) where
 
     -- After an insertion, each other key has its old value.
     pub lookup_put_other : (l : List (K × V)) (k : K) (v : V) (q : K) → eq k q ≡ false → lookup eq (put eq l k v) q ≡ lookup eq l q
-    lookup_put_other l k v q n = (updates_put eq o l k v).others q n
+    lookup_put_other l k v q n = (updates_put eq o l k v).lookups q ∙ ap (λ b. cond b (Some v) (lookup eq l q)) n
 
     -- A key that is removed from a list of distinct keys is absent.
     pub lookup_without_key : (l : List (K × V)) (k : K) → HasDistinctKeys eq l → lookup eq (without_key eq l k) k ≡ None
