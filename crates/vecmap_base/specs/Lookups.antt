@@ -13,7 +13,6 @@ module _ {K V : Type 0} (eq : K → K → Bool) where
     pub own : lookup_by test m ≡ w
     pub queries : KeepsOthers eq test l m
     pub distinct : HasDistinctKeys eq l → HasDistinctKeys eq m
-    pub gone : w ≡ None → index_by test m ≡ None
 
   -- Example: from `[(1,a), (2,b)]` to `[(2,b), (1,a)]`.
   -- Each key, and each query that matches a key and its equals alone, finds in the list `m` what it finds in `l`.

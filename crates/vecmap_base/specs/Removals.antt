@@ -1,9 +1,8 @@
 -- What the removal of one pair, and a split, leaves of a list of pairs, one record for each kind of removal. `eq` is the `==`
 -- of keys, and a test is what a query does with a key.
-use Rattle.std.specs.Prelude.{◌≡◌, ◌+◌, ◌++◌, ◌-◌, ℕ, Bool, IfSome, List, None, Option, Some, cond, drop, if◌then◌else◌, is_some, length, option_map, remove, slice_get}
+use Rattle.std.specs.Prelude.{◌≡◌, ◌+◌, ◌++◌, ◌-◌, ℕ, Bool, IfSome, List, None, Option, Some, cond, drop, if◌then◌else◌, is_some, length, option_map, slice_get}
 use Rattle.std.specs.{Cmp.IsEquivalence, Map.IsKeyTest, Map.keys_of, Option.option_or}
-use Rattle.vecmap_base.specs.{Indices.ShiftsIndices, Items.swap_without, Lookups.{KeepsFront, UpdatesBy}}
-use Rattle.vecmap_base.specs.Pairs.{HasDistinctKeys, index_by, lookup_by, lookup_pair_by, swap_without_by, without_by}
+use Rattle.vecmap_base.specs.{Lookups.{KeepsFront, UpdatesBy}, Pairs.{HasDistinctKeys, index_by, lookup_by, lookup_pair_by}}
 
 module _ {K V : Type 0} where
   -- Example: `(1,a)` of `[(1,a), (2,b)]` for the query 1.
@@ -14,24 +13,13 @@ module _ {K V : Type 0} where
     pub found : is_some r ≡ is_some (lookup_by test l)
     pub value : option_map (λ p. p.1) r ≡ lookup_by test l
 
-  -- Example: from `[(1,a), (2,b)]` to `[(2,b)]` for the query 1.
-  -- The list `m` is the list `l` without the first pair whose key passes the test; the pairs after it move by one index.
-  pub record RemovesBy (eq : K → K → Bool) (test : K → Bool) (l m : List (K × V)) : Type 0 where
-    pub entries : m ≡ without_by test l
+  -- Example: from `[(1,a), (2,b)]` to `[(2,b)]` for the query 1 and `without_by`.
+  -- The list `m` is the list `l` without the first pair whose key passes the test, and with the others as `without` says.
+  pub record RemovesBy (eq : K → K → Bool) (without : (K → Bool) → List (K × V) → List (K × V)) (test : K → Bool) (l m : List (K × V)) : Type 0 where
+    pub entries : m ≡ without test l
     -- What lookups find: nothing for the key, and for each other key what they found.
     pub updates : HasDistinctKeys eq l → UpdatesBy eq test l m None
-    pub distinct : HasDistinctKeys eq l → HasDistinctKeys eq m
-    pub len : length m + (if is_some (lookup_by test l) then 1 else 0) ≡ length l
-    -- At which indices the other keys are.
-    pub indices : IfSome (index_by test l) (λ i. ShiftsIndices i l m)
-
-  -- Example: from `[(1,a), (2,b), (3,c)]` to `[(3,c), (2,b)]` for the query 1.
-  -- The list `m` is the list `l` without the first pair whose key passes the test; the last pair moves to its index.
-  pub record SwapRemovesBy (eq : K → K → Bool) (test : K → Bool) (l m : List (K × V)) : Type 0 where
-    pub entries : m ≡ swap_without_by test l
-    -- What lookups find: nothing for the key, and for each other key what they found.
-    pub updates : HasDistinctKeys eq l → UpdatesBy eq test l m None
-    pub distinct : HasDistinctKeys eq l → HasDistinctKeys eq m
+    pub gone : HasDistinctKeys eq l → index_by test m ≡ None
     pub len : length m + (if is_some (lookup_by test l) then 1 else 0) ≡ length l
 
   -- Example: the key 1, from `[(1,a), (2,b)]` to `[(2,b)]`.
@@ -44,30 +32,14 @@ module _ {K V : Type 0} where
   abbrev pub ForgetsIndex : ℕ → List (K × V) → List (K × V) → Type 0
   ForgetsIndex i l m = (test : K → Bool) (eq : K → K → Bool) → HasDistinctKeys eq l → IsKeyTest eq test → IsEquivalence eq → index_by test l ≡ Some i → lookup_by test m ≡ None
 
-  -- Example: from `[(1,a), (2,b)]` to `[(2,b)]` for the index 0 and the pair `(1,a)`.
-  -- The list `m` is the list `l` without its pair `p` at the index `i`; the pairs after it move by one index.
-  pub record RemovesAt (i : ℕ) (l : List (K × V)) (p : K × V) (m : List (K × V)) : Type 0 where
+  -- Example: from `[(1,a), (2,b)]` to `[(2,b)]` for the index 0, the pair `(1,a)` and `remove`.
+  -- The list `m` is the list `l` without its pair `p` at the index `i`, and with the others as `without` says.
+  pub record RemovesAt (without : List (K × V) → ℕ → List (K × V)) (i : ℕ) (l : List (K × V)) (p : K × V) (m : List (K × V)) : Type 0 where
     pub pair : slice_get l i ≡ Some p
-    pub entries : m ≡ remove l i
-    -- What lookups find, by the removed key and by its index, and by an absent key.
+    pub entries : m ≡ without l i
+    -- What lookups find, by the removed key and by its index.
     pub lookups : ForgetsKey p.0 l m
     pub gone : ForgetsIndex i l m
-    pub absent : (test : K → Bool) → lookup_by test l ≡ None → lookup_by test m ≡ None
-    pub distinct : (eq : K → K → Bool) → HasDistinctKeys eq l → HasDistinctKeys eq m
-    pub len : length m + 1 ≡ length l
-    -- At which indices the other keys are.
-    pub indices : ShiftsIndices i l m
-
-  -- Example: from `[(1,a), (2,b), (3,c)]` to `[(3,c), (2,b)]` for the index 0 and the pair `(1,a)`.
-  -- The list `m` is the list `l` without its pair `p` at the index `i`; the last pair moves to that index.
-  pub record SwapRemovesAt (i : ℕ) (l : List (K × V)) (p : K × V) (m : List (K × V)) : Type 0 where
-    pub pair : slice_get l i ≡ Some p
-    pub entries : m ≡ swap_without l i
-    -- What lookups find, by the removed key and by its index, and by an absent key.
-    pub lookups : ForgetsKey p.0 l m
-    pub gone : ForgetsIndex i l m
-    pub absent : (test : K → Bool) → lookup_by test l ≡ None → lookup_by test m ≡ None
-    pub distinct : (eq : K → K → Bool) → IsEquivalence eq → HasDistinctKeys eq l → HasDistinctKeys eq m
     pub len : length m + 1 ≡ length l
 
   -- Example: from `[(1,a), (2,b)]` to `[(1,a)]`, with `Some (2,b)`.

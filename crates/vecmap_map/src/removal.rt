@@ -1,8 +1,8 @@
 //! Removal of pairs.
-ghost use Rattle.std.specs.{Prelude.{◌≡◌, ◌<◌, ◌≤◌, Bool, IfNone, IfOk, IsOk, None, OnErr, Some, String, [], false, length, string_eq, true}, Map.IsKeyTest};
+ghost use Rattle.std.specs.{Cmp.IsEquivalence, Prelude.{◌≡◌, ◌<◌, ◌≤◌, Bool, IfNone, IfOk, IfSome, IsOk, None, OnErr, Some, String, [], false, length, remove, string_eq, true}, Map.IsKeyTest};
 ghost use Rattle.vecmap_base.specs.{Asked.{CallableAtPair, CallableOnEach, CallsAtPair}, Kept.{RetainsPairs, ReturnsAtValue}};
-ghost use Rattle.vecmap_base.specs.{Lookups.KeepsFront, Pairs.{HasDistinctKeys, has_text, lookup_by}};
-ghost use Rattle.vecmap_base.specs.Removals.{FindsPair, RemovesAt, RemovesBy, RemovesLast, SplitsAt, SwapRemovesAt, SwapRemovesBy};
+ghost use Rattle.vecmap_base.specs.{Indices.ShiftsIndices, Items.swap_without, Lookups.KeepsFront, Pairs.{HasDistinctKeys, has_text, index_by, lookup_by, swap_without_by, without_by}};
+ghost use Rattle.vecmap_base.specs.Removals.{FindsPair, RemovesAt, RemovesBy, RemovesLast, SplitsAt};
 
 use crate::VecMap;
 use std::alloc::AllocError;
@@ -178,7 +178,10 @@ impl<K, V> VecMap<K, V> {
     where
         K: Eq + Drop,
         ensures value { result ≡ lookup_by (Q.equivalent query) self.old.entries }
-        ensures removal { RemovesBy K.eq (Q.equivalent query) self.old.entries self.new.entries }
+        ensures removal { RemovesBy K.eq without_by (Q.equivalent query) self.old.entries
+            self.new.entries }
+        ensures indices { IfSome (index_by (Q.equivalent query) self.old.entries)
+            (λ index. ShiftsIndices index self.old.entries self.new.entries) }
         ensures capacity { self.new.capacity ≡ self.old.capacity }
         ensures unchanged { IfNone result (self.new ≡ self.old) }
     {
@@ -200,7 +203,10 @@ impl<K, V> VecMap<K, V> {
     where
         K: Eq,
         ensures pair { FindsPair (Q.equivalent query) self.old.entries result }
-        ensures removal { RemovesBy K.eq (Q.equivalent query) self.old.entries self.new.entries }
+        ensures removal { RemovesBy K.eq without_by (Q.equivalent query) self.old.entries
+            self.new.entries }
+        ensures indices { IfSome (index_by (Q.equivalent query) self.old.entries)
+            (λ index. ShiftsIndices index self.old.entries self.new.entries) }
         ensures capacity { self.new.capacity ≡ self.old.capacity }
         ensures unchanged { IfNone result (self.new ≡ self.old) }
     {
@@ -230,8 +236,13 @@ impl<K, V> VecMap<K, V> {
     /// ```
     pub fn remove_index(&mut self, index: usize) -> (K, V)
         requires within { index < length self.old.entries }
-        ensures removal { RemovesAt index self.old.entries result self.new.entries }
+        ensures removal { RemovesAt remove index self.old.entries result self.new.entries }
+        ensures indices { ShiftsIndices index self.old.entries self.new.entries }
         ensures capacity { self.new.capacity ≡ self.old.capacity }
+
+        // What follows for lookups, lengths and indices.
+        ensures distinct { (eq : K → K → Bool) → HasDistinctKeys eq self.old.entries
+            → HasDistinctKeys eq self.new.entries }
     {
         remove_item(&mut self.pairs, index)
     }
@@ -256,7 +267,8 @@ impl<K, V> VecMap<K, V> {
     where
         K: Eq + Drop,
         ensures value { result ≡ lookup_by (Q.equivalent query) self.old.entries }
-        ensures removal { SwapRemovesBy K.eq (Q.equivalent query) self.old.entries self.new.entries }
+        ensures removal { RemovesBy K.eq swap_without_by (Q.equivalent query) self.old.entries
+            self.new.entries }
         ensures capacity { self.new.capacity ≡ self.old.capacity }
         ensures unchanged { IfNone result (self.new ≡ self.old) }
     {
@@ -278,7 +290,8 @@ impl<K, V> VecMap<K, V> {
     where
         K: Eq,
         ensures pair { FindsPair (Q.equivalent query) self.old.entries result }
-        ensures removal { SwapRemovesBy K.eq (Q.equivalent query) self.old.entries self.new.entries }
+        ensures removal { RemovesBy K.eq swap_without_by (Q.equivalent query) self.old.entries
+            self.new.entries }
         ensures capacity { self.new.capacity ≡ self.old.capacity }
         ensures unchanged { IfNone result (self.new ≡ self.old) }
     {
@@ -306,8 +319,12 @@ impl<K, V> VecMap<K, V> {
     /// ```
     pub fn swap_remove_index(&mut self, index: usize) -> (K, V)
         requires within { index < length self.old.entries }
-        ensures removal { SwapRemovesAt index self.old.entries result self.new.entries }
+        ensures removal { RemovesAt swap_without index self.old.entries result self.new.entries }
         ensures capacity { self.new.capacity ≡ self.old.capacity }
+
+        // What follows for lookups, lengths and indices.
+        ensures distinct { (eq : K → K → Bool) → IsEquivalence eq
+            → HasDistinctKeys eq self.old.entries → HasDistinctKeys eq self.new.entries }
     {
         self.pairs.swap_remove(index)
     }
@@ -324,8 +341,10 @@ impl<V> VecMap<String, V> {
     /// ```
     pub fn remove_str(&mut self, text: &str) -> Option<V>
         ensures value { result ≡ lookup_by (has_text text.now) self.old.entries }
-        ensures removal { RemovesBy string_eq (has_text text.now) self.old.entries
+        ensures removal { RemovesBy string_eq without_by (has_text text.now) self.old.entries
             self.new.entries }
+        ensures indices { IfSome (index_by (has_text text.now) self.old.entries)
+            (λ index. ShiftsIndices index self.old.entries self.new.entries) }
         ensures capacity { self.new.capacity ≡ self.old.capacity }
         ensures unchanged { IfNone result (self.new ≡ self.old) }
     {

@@ -1,6 +1,6 @@
 -- What lookups find after an insertion, by keys and by queries.
 use Rattle.std.specs.{Cmp.IsEquivalence, Map.{IsKeyTest, KeepsOthers}}
-use Rattle.std.proofs.{Common.{arith, ◌≡◌, Bool, true, List, [], ◌∷◌, Some, cond, subst, sym}, lemmas.{Bool.cases_Bool, Option.none-some}}
+use Rattle.std.proofs.{Common.{arith, ◌≡◌, Bool, true, List, [], ◌∷◌, Some, cond, subst, sym}, lemmas.Bool.cases_Bool}
 use Rattle.vecmap_base.{specs.{Lookups.UpdatesBy, Pairs.{lookup_by, put}}, proofs.PairsLemmas.Distinct.distinct_put}
 
 module _ {K : Type 0} (eq : K → K → Bool) (o : IsEquivalence eq) (test : K → Bool) (respects : IsKeyTest eq test) where
@@ -22,7 +22,7 @@ module _ {K V : Type 0} (eq : K → K → Bool) (o : IsEquivalence eq) where
   -- After an insertion, its key has the value, and each other key what it had.
   pub updates_put : (l : List (K × V)) (k : K) (v : V) → UpdatesBy eq (eq k) l (put eq l k v) (Some v)
   unfolding KeepsOthers
-  updates_put l k v = grind (arith, lookup_by_put, distinct_put, none-some)
+  updates_put l k v = grind (arith, lookup_by_put, distinct_put)
 
   -- The same of a list that is known to be the one after the insertion.
   pub updates_of_put : (l m : List (K × V)) (k : K) (v : V) → m ≡ put eq l k v → UpdatesBy eq (eq k) l m (Some v)

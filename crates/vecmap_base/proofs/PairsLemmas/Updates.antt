@@ -7,7 +7,7 @@ use Rattle.std.proofs.lemmas.Map.{NonePasses, lookup-none, lookup-set_value, non
 use Rattle.std.proofs.lemmas.Map.Keys.{IsDistinct-cons, IsDistinct-tail}
 use Rattle.vecmap_base.specs.{Lookups.KeepsLookups, Lookups.UpdatesBy}
 use Rattle.vecmap_base.specs.Pairs.{HasDistinctKeys, index_by, index_of, lookup, lookup_by, put, put_at, put_key, value_at, with_pair, with_value, without_by}
-use Rattle.vecmap_base.proofs.PairsLemmas.ByIndex.{index_by_is, index_by_none, is_some_lookup_by, lookup_by_index, put_key_by_index, set_value_by_index, without_by_index}
+use Rattle.vecmap_base.proofs.PairsLemmas.ByIndex.{index_by_is, is_some_lookup_by, lookup_by_index, put_key_by_index, set_value_by_index, without_by_index}
 use Rattle.vecmap_base.proofs.PairsLemmas.Distinct.{distinct_keys_rearranged, distinct_keys_set_value, distinct_put}
 use Rattle.vecmap_base.proofs.{PairsLemmas.Keys.index_of_is, PairsLemmas.Lookups.{compares_with, same_answer, updates_of_put, updates_put}}
 use Rattle.vecmap_base.proofs.{DistinctLemmas.Additions.distinct_replace, PairsLemmas.Puts.put_absent}
@@ -18,7 +18,7 @@ module _ {K V : Type 0} (eq : K → K → Bool) (o : IsEquivalence eq) (test : K
   updates_from : (l m : List (K × V)) (w : Option V) → lookup_by test m ≡ w → ((other : K → Bool) → IsKeyTest eq other → AreApart test other → lookup_by other m ≡ lookup_by other l)
       → (HasDistinctKeys eq l → HasDistinctKeys eq m) → UpdatesBy eq test l m w
   unfolding KeepsOthers
-  updates_from l m w here apart distinct = grind (arith, cases_Bool, compares_with, index_by_none)
+  updates_from l m w here apart distinct = grind (arith, cases_Bool, compares_with)
 
   -- The removal of a pair whose key passes, wherever the other pairs go.
   updates_taken : (l s : List (K × V)) (p : K × V) → HasDistinctKeys eq l → test p.0 ≡ true → IsPermutation l (p ∷ s) → UpdatesBy eq test l s None

@@ -1,6 +1,6 @@
 use Rattle.std.proofs.Common.{refl, ◌∙◌}
 use Rattle.vecmap_map.proofs.EntryLemmas.Puts.{entries_swap_without_by, entries_with_put, entries_without_by, entry_value_is}
-use Rattle.vecmap_base.proofs.{InsertionLemmas.sets_key, RemovalLemmas.{removes_by, swap_removes_by}}
+use Rattle.vecmap_base.proofs.{InsertionLemmas.sets_key, PairsLemmas.AtIndices.shifts_without, RemovalLemmas.{removes_by, swap_removes_by}}
 use Rattle.vecmap_map.proofs.VecMap.entry.Goals as goal
 
 pub returns-clause-insertion : goal.returns-clause-insertion
@@ -14,6 +14,9 @@ returns-clause-removal g c m is =
     let eq = g.K.PartialEq.eq in
     let o = g.met.K.Eq.laws in
     removes_by (eq c.args.key) _ eq o (o.congr c.args.key) m (is ∙ entries_without_by eq _ _ _ c.over.ensures.unchanged c.over.ensures.index)
+
+pub returns-clause-indices : goal.returns-clause-indices
+returns-clause-indices g c m is = shifts_without (g.K.PartialEq.eq c.args.key) _ m (is ∙ entries_without_by g.K.PartialEq.eq _ _ _ c.over.ensures.unchanged c.over.ensures.index)
 
 pub returns-clause-swap_removal : goal.returns-clause-swap_removal
 returns-clause-swap_removal g c m is =
