@@ -23,14 +23,13 @@ module _ {K V : Type 0} (eq : K → K → Bool) where
 
 module _ {K V : Type 0} where
   -- Example: `[(1,a)]`, the first pair of `[(1,a), (2,b)]`.
-  -- The list `m` has the first `n` pairs of the list `l`: a query whose match is there finds it, and any other nothing.
+  -- The list `m` has the first `n` pairs of the list `l`.
   pub record KeepsFront (n : ℕ) (l m : List (K × V)) : Type 0 where
     pub entries : m ≡ take n l
-    pub found : (test : K → Bool) (i : ℕ) → index_by test l ≡ Some i → i < n → lookup_by test m ≡ lookup_by test l
-    pub gone : (test : K → Bool) (i : ℕ) → index_by test l ≡ Some i → n ≤ i → lookup_by test m ≡ None
-    pub absent : (test : K → Bool) → lookup_by test l ≡ None → lookup_by test m ≡ None
+    -- What lookups find: a query whose match is in the front finds it, and any other nothing. Distinct keys stay distinct.
     pub lookups : (test : K → Bool) → lookup_by test m ≡ (if nat_lt (unwrap_or (index_by test l) (length l)) n then lookup_by test l else None)
     pub distinct : (eq : K → K → Bool) → HasDistinctKeys eq l → HasDistinctKeys eq m
+    -- Which keys and values the list has, and at which indices.
     pub indices : (test : K → Bool) (i : ℕ) → index_by test l ≡ Some i → i < n → index_by test m ≡ Some i
     pub keys : keys_of m ≡ take n (keys_of l)
     pub values : values_of m ≡ take n (values_of l)

@@ -1,31 +1,19 @@
 -- What lookups find in the front of a list, after the insertions of many pairs, and whether anything matches in another order.
 use Rattle.std.specs.{Cmp.IsEquivalence, List.IsDistinct, List.Sorted.IsPermutation, Map.{IsKeyTest, keys_of}, Option.option_or}
-use Rattle.std.proofs.Common.{◌≡◌, ◌∙◌, ◌<◌, ◌≤◌, ℕ, zero, suc, Bool, true, false, List, [], ◌∷◌, ◌++◌, None, Option, Some, ap, arith, cond, drop, if◌then◌else◌, is_some, length, nat_lt, option_map, refl, subst, sym, take, unwrap_or}
+use Rattle.std.proofs.Common.{◌≡◌, ◌∙◌, ℕ, zero, suc, Bool, true, false, List, [], ◌∷◌, ◌++◌, None, Option, Some, ap, arith, cond, drop, if◌then◌else◌, is_some, length, nat_lt, option_map, refl, subst, sym, take, unwrap_or}
 use Rattle.std.proofs.{lemmas.Bool.{cases_Bool, Decides.nat_tests}, lemmas.List.{length-take, map-append, take-append-drop, take-map, append-nil, append_assoc}}
 use Rattle.std.proofs.{lemmas.List.Sorted.{list_any-IsPermutation, IsPermutation-append_comm}, lemmas.Map.lookup-none}
-use Rattle.std.proofs.{lemmas.Map.Entries.none_past_head, lemmas.Map.Keys.IsDistinct-tail, lemmas.Option.{none-some, same_Some}}
+use Rattle.std.proofs.{lemmas.Map.Entries.none_past_head, lemmas.Map.Keys.IsDistinct-tail}
 use Rattle.vecmap_base.specs.{Lookups.{Joins, KeepsFront, MakesPairs}, Pairs.{HasDistinctKeys, index_by, lookup_by, put, puts}}
 use Rattle.vecmap_base.proofs.{DistinctLemmas.{Absent.distinct_none, Removals.{distinct_front, distinct_take}}, IndexLemmas.is_some_position}
 use Rattle.vecmap_base.proofs.InsertionLemmas.{indices_put}
-use Rattle.vecmap_base.proofs.PairsLemmas.{AtIndices.index_in_front, ByIndex.{index_by_is, index_by_none, is_some_lookup_by}, Distinct.distinct_keys_rearranged, Distinct.distinct_put, Lookups.{compares_with, lookup_by_put}, Puts.{length_puts_at_most, length_puts_least}, Puts.put_absent, Puts.puts_not_empty}
+use Rattle.vecmap_base.proofs.PairsLemmas.{AtIndices.index_in_front, ByIndex.{index_by_is, index_by_none}, Distinct.distinct_keys_rearranged, Distinct.distinct_put, Lookups.{compares_with, lookup_by_put}, Puts.{length_puts_at_most, length_puts_least}, Puts.put_absent, Puts.puts_not_empty}
 
 module _ {K V : Type 0} (test : K → Bool) where
   -- A lookup in a list of two parts finds what the first part has, or else what the second has.
   pub lookup_by_append : (a b : List (K × V)) → lookup_by test (a ++ b) ≡ option_or (lookup_by test a) (lookup_by test b)
   lookup_by_append [] b = grind (arith)
   lookup_by_append (p ∷ ps) b = grind (arith, (lookup_by_append ps b))
-
-  found_in_front : (n : ℕ) (l : List (K × V)) (i : ℕ) → index_by test l ≡ Some i → i < n → lookup_by test (take n l) ≡ lookup_by test l
-  found_in_front n l i e h =
-      grind (arith, (lookup_by_append (take n l) (drop n l)), (take-append-drop n l), (is_some_lookup_by test (take n l)), (index_in_front test n l i e h))
-
-  gone_from_front : (n : ℕ) (l : List (K × V)) (i : ℕ) → index_by test l ≡ Some i → n ≤ i → lookup_by test (take n l) ≡ None
-  gone_from_front zero l i e h = grind (arith, none-some, cases_Bool, same_Some)
-  gone_from_front (suc n) [] i e h = grind (arith, none-some, cases_Bool, same_Some)
-  gone_from_front (suc n) (p ∷ ps) i e h = grind (arith, none-some, cases_Bool, same_Some, (gone_from_front n ps))
-
-  absent_in_front : (n : ℕ) (l : List (K × V)) → lookup_by test l ≡ None → lookup_by test (take n l) ≡ None
-  absent_in_front n l e = grind (arith, (lookup_by_append (take n l) (drop n l)), (take-append-drop n l))
 
   -- In the front, a query finds what it found if its match is there.
   pub lookup_by_take : (l : List (K × V)) (n : ℕ) → lookup_by test (take n l) ≡ (if nat_lt (unwrap_or (index_by test l) (length l)) n then lookup_by test l else None)
@@ -47,9 +35,6 @@ module _ {K V : Type 0} where
   pub keeps_front : (n : ℕ) (l : List (K × V)) → KeepsFront n l (take n l)
   keeps_front n l = record {
     entries = refl;
-    found = λ test. found_in_front test n l;
-    gone = λ test. gone_from_front test n l;
-    absent = λ test. absent_in_front test n l;
     lookups = λ test. lookup_by_take test l n;
     distinct = λ eq d. subst (IsDistinct eq) (take-map (λ p. p.0) n l) (distinct_take eq n (keys_of l) d);
     indices = λ test. index_in_front test n l;
