@@ -3,7 +3,7 @@ use Rattle.std.specs.{Cmp.IsEquivalence, Map.keys_of, Option.option_map_or}
 use Rattle.std.proofs.Common.{◌≡◌, ◌∙◌, ◌+◌, ◌-◌, ◌≤◌, ◌++◌, ℕ, zero, suc, Bool, true, false, List, [], ◌∷◌, None, Option, Some, IsSome, ap, arith, if◌then◌else◌, insert, is_some, length, min, option_map, refl, remove, slice_get, sym, unwrap_or}
 use Rattle.std.proofs.{lemmas.List.{length-append, length-map}, lemmas.List.Edits.{length-insert, length-remove}}
 use Rattle.std.proofs.lemmas.Option.{none-some, slice_get_within}
-use Rattle.vecmap_base.specs.Insertions.{AddsKey, InsertsAt, PutsKey, SetsKey}
+use Rattle.vecmap_base.specs.Insertions.{AddsKey, InsertsAt, PutsKey}
 use Rattle.vecmap_base.specs.Pairs.{index_by, index_of, index_or_length, lookup, put, put_at, put_key, with_pair}
 use Rattle.vecmap_base.proofs.{IndexLemmas.slice_get_last, MoveLemmas.{front_inserted, inserted_found}, PairsLemmas.AtIndices.{match_at, same_indices, stays}}
 use Rattle.vecmap_base.proofs.{PairsLemmas.ByIndex.{index_by_none, is_some_lookup_by, put_key_by_index}, PairsLemmas.Lookups.updates_of_put}
@@ -40,21 +40,13 @@ module _ {K V : Type 0} (eq : K → K → Bool) where
     index_put [] k v = grind (arith, option_map, suc_unwrapped)
     index_put (p ∷ ps) k v = grind (arith, option_map, suc_unwrapped, (index_put ps k v))
 
-    kept_keys : (l : List (K × V)) (k : K) (v : V) → IsSome (lookup eq l k) → keys_of (put eq l k v) ≡ keys_of l
-    kept_keys l k v some = keys_put l k v ∙ ap (λ b. if b then keys_of l else keys_of l ++ k ∷ []) some
-
     -- If the value is the one that is stored, nothing changes.
     put_found : (l : List (K × V)) (k : K) (v w : V) → IsSome (lookup eq l k) → v ≡ unwrap_or (lookup eq l k) w → put eq l k v ≡ l
     put_found l k v w some e = grind (arith, put_stored, is_some_lookup_by)
 
     -- After an insertion.
     pub adds_key : (l m : List (K × V)) (k : K) (v : V) → m ≡ put eq l k v → AddsKey eq l k v m
-    adds_key l m k v e = grind (arith, (updates_of_put eq o l m k v e), index_put, indices_put, keys_put, length_put_by_lookup, kept_keys, put_absent, index_by_none, slice_get_last, same_indices, put_found)
-
-    pub sets_key : (l m : List (K × V)) (k : K) (v : V) → m ≡ put eq l k v → SetsKey eq l k v m
-    sets_key l m k v e =
-        let a = adds_key l m k v e in
-        record { entries = a.entries; updates = a.updates; index = a.index; indices = a.indices; kept = a.kept; appended = a.appended; last = a.last; pair = a.pair; stay = a.stay; same = a.same }
+    adds_key l m k v e = grind (arith, (updates_of_put eq o l m k v e), index_put, indices_put, keys_put, length_put_by_lookup, put_absent, index_by_none, same_indices, put_found)
 
     -- Each key has the same index after an insertion that keeps an equal key and after one that replaces it.
     pub index_of_put_key : (l : List (K × V)) (k : K) (v : V) (q : K) → index_of eq (put_key eq l k v) q ≡ index_of eq (put eq l k v) q

@@ -1,5 +1,5 @@
--- What the insertion of one pair leaves of a list of pairs, one record for each kind of insertion. `eq` is the `==` of keys,
--- and a test is what a query does with a key.
+-- What the insertion of one pair leaves of a list of pairs, one record for each kind of insertion. The first field is the
+-- whole list, and the others follow from it. `eq` is the `==` of keys, and a test is what a query does with a key.
 use Rattle.std.specs.Prelude.{◌≡◌, ◌++◌, ◌∷◌, ◌+◌, ◌-◌, ◌<◌, ℕ, Bool, List, [], IsSome, None, Some, if◌then◌else◌, insert, is_some, length, min, slice_get, true, unwrap_or}
 use Rattle.std.specs.Map.{keys_of}
 use Rattle.vecmap_base.specs.{Lookups.UpdatesBy, Pairs.{HasDistinctKeys, index_by, index_of, index_or_length, lookup, put, put_at, put_key}}
@@ -15,26 +15,8 @@ pub record AddsKey {K V : Type 0} (eq : K → K → Bool) (l : List (K × V)) (k
   pub indices : (test : K → Bool) (i : ℕ) → index_by test l ≡ Some i → index_by test m ≡ Some i
   pub keys : keys_of m ≡ (if is_some (lookup eq l k) then keys_of l else keys_of l ++ k ∷ [])
   pub len : length m ≡ (if is_some (lookup eq l k) then length l else length l + 1)
-  pub kept : IsSome (lookup eq l k) → keys_of m ≡ keys_of l
+  -- What happens to a new key, to a present one, and to one whose value stays.
   pub appended : lookup eq l k ≡ None → m ≡ l ++ (k, v) ∷ []
-  pub last : lookup eq l k ≡ None → index_of eq m k ≡ Some (length l)
-  pub pair : lookup eq l k ≡ None → slice_get m (length l) ≡ Some (k, v)
-  pub stay : IsSome (lookup eq l k) → (test : K → Bool) → index_by test m ≡ index_by test l
-  pub same : (w : V) → IsSome (lookup eq l k) → v ≡ unwrap_or (lookup eq l k) w → m ≡ l
-
--- Example: from `[(1,a)]` to `[(1,a), (2,b)]` for the pair `(2,b)`.
--- The same change, as an entry says it of each value: lengths and keys by cases, since a search tries each number as `v`.
-pub record SetsKey {K V : Type 0} (eq : K → K → Bool) (l : List (K × V)) (k : K) (v : V) (m : List (K × V)) : Type 0 where
-  pub entries : m ≡ put eq l k v
-  -- What lookups find: the value for the key, and for each other key what they found. Distinct keys stay distinct.
-  pub updates : UpdatesBy eq (eq k) l m (Some v)
-  -- At which indices the keys are, and which there are, by whether `k` is one of them.
-  pub index : index_of eq m k ≡ Some (index_or_length eq l k)
-  pub indices : (test : K → Bool) (i : ℕ) → index_by test l ≡ Some i → index_by test m ≡ Some i
-  pub kept : IsSome (lookup eq l k) → keys_of m ≡ keys_of l
-  pub appended : lookup eq l k ≡ None → m ≡ l ++ (k, v) ∷ []
-  pub last : lookup eq l k ≡ None → index_of eq m k ≡ Some (length l)
-  pub pair : lookup eq l k ≡ None → slice_get m (length l) ≡ Some (k, v)
   pub stay : IsSome (lookup eq l k) → (test : K → Bool) → index_by test m ≡ index_by test l
   pub same : (w : V) → IsSome (lookup eq l k) → v ≡ unwrap_or (lookup eq l k) w → m ≡ l
 

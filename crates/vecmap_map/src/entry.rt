@@ -4,7 +4,7 @@
 //! what the map is once the returned reference has ended.
 ghost use Rattle.std.specs.Prelude.{◌≡◌, ◌<◌, ◌^◌, ◌⊎◌, Err, IfErr, IfOk, IfSome, List, None, Ok, OnErr, Some, length, unwrap_or};
 ghost use Rattle.std.specs.{Borrow.{Bor, MutBor, sem}, Fn.FnOnceReturnsAt, Map.Calls.ModifiesValue, Option.{UnwrapsOrElse, option_map_or}};
-ghost use Rattle.vecmap_base.specs.{Indices.ShiftsIndices, Insertions.SetsKey, Lookups.UpdatesBy, Pairs.{HasDistinctKeys, index_of, lookup, swap_without_by, without_by}, Removals.RemovesBy};
+ghost use Rattle.vecmap_base.specs.{Indices.ShiftsIndices, Insertions.AddsKey, Lookups.UpdatesBy, Pairs.{HasDistinctKeys, index_of, lookup, swap_without_by, without_by}, Removals.RemovesBy};
 ghost use Rattle.vecmap_map.specs.Contents.{IsFull};
 
 mod occupied;
@@ -62,7 +62,7 @@ impl<K, V> VecMap<K, V> {
         ensures value { entry_value result ≡ lookup K.eq self.old.entries key }
 
         // What follows for lookups, lengths and indices.
-        ensures insertion { (v : V) → SetsKey K.eq self.old.entries key v
+        ensures insertion { (v : V) → AddsKey K.eq self.old.entries key v
             (entries_with result v) }
         ensures without { HasDistinctKeys K.eq self.old.entries
             → UpdatesBy K.eq (K.eq key) self.old.entries (entries_without result) None }
