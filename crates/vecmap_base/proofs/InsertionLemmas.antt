@@ -5,7 +5,7 @@ use Rattle.std.proofs.{lemmas.List.{length-append, length-map}, lemmas.List.Edit
 use Rattle.std.proofs.lemmas.Option.{none-some, slice_get_within}
 use Rattle.vecmap_base.specs.Insertions.{AddsKey, InsertsAt, PutsKey}
 use Rattle.vecmap_base.specs.Pairs.{index_by, index_of, index_or_length, lookup, put, put_at, put_key, with_pair}
-use Rattle.vecmap_base.proofs.{IndexLemmas.slice_get_last, MoveLemmas.{front_inserted, inserted_found}, PairsLemmas.AtIndices.{match_at, same_indices, stays}}
+use Rattle.vecmap_base.proofs.{MoveLemmas.{front_inserted, inserted_found}, PairsLemmas.AtIndices.{match_at, same_indices, stays}}
 use Rattle.vecmap_base.proofs.{PairsLemmas.ByIndex.{index_by_none, is_some_lookup_by, put_key_by_index}, PairsLemmas.Lookups.updates_of_put}
 use Rattle.vecmap_base.proofs.{PairsLemmas.Indices.is_some_index_of, PairsLemmas.Keys.{keys_of_insert, keys_of_put}}
 use Rattle.vecmap_base.proofs.{PairsLemmas.Puts.{put_absent, put_stored}, PairsLemmas.Updates.{updates_put_at, updates_put_key}}
@@ -67,7 +67,7 @@ module _ {K V : Type 0} (eq : K → K → Bool) where
 
     -- After an insertion that replaces an equal key.
     pub puts_key : (l m : List (K × V)) (k : K) (v : V) → m ≡ put_key eq l k v → PutsKey eq l k v m
-    puts_key l m k v e = grind (arith, (updates_put_key eq o l m k v e), index_of_put_key, index_put, indices_put, pair_put_key, length_put_key, length_put_by_lookup, appended_key, slice_get_last, keys_put_key, keys_put)
+    puts_key l m k v e = grind (arith, (updates_put_key eq o l m k v e), index_of_put_key, index_put, indices_put, pair_put_key, length_put_key, length_put_by_lookup, appended_key, keys_put_key, keys_put)
 
     -- After a pair is appended whose key is absent.
     pub adds_new_key : (l m : List (K × V)) (k : K) (v : V) → m ≡ l ++ (k, v) ∷ [] → lookup eq l k ≡ None → AddsKey eq l k v m

@@ -26,13 +26,12 @@ pub record PutsKey {K V : Type 0} (eq : K → K → Bool) (l : List (K × V)) (k
   pub entries : m ≡ put_key eq l k v
   -- What lookups find: the value for the key, and for each other key what they found. Distinct keys stay distinct.
   pub updates : UpdatesBy eq (eq k) l m (Some v)
-  -- Which keys the list has, and at which indices.
+  -- Where the pair and the other keys are, and which keys the list has.
+  pub pair : slice_get m (index_or_length eq l k) ≡ Some (k, v)
   pub index : index_of eq m k ≡ Some (index_or_length eq l k)
   pub indices : (q : K) (i : ℕ) → index_of eq l q ≡ Some i → index_of eq m q ≡ Some i
-  pub pair : slice_get m (index_or_length eq l k) ≡ Some (k, v)
-  pub len : length m ≡ (if is_some (lookup eq l k) then length l else length l + 1)
   pub appended : lookup eq l k ≡ None → m ≡ l ++ (k, v) ∷ []
-  pub last : lookup eq l k ≡ None → slice_get m (length l) ≡ Some (k, v)
+  pub len : length m ≡ (if is_some (lookup eq l k) then length l else length l + 1)
   pub keys : ((q : K) → eq k q ≡ true → q ≡ k) → keys_of m ≡ (if is_some (lookup eq l k) then keys_of l else keys_of l ++ k ∷ [])
 
 -- Example: from `[(1,a)]` to `[(2,b), (1,a)]` for the pair `(2,b)` and the index 0.
@@ -44,7 +43,6 @@ pub record InsertsAt {K V : Type 0} (eq : K → K → Bool) (i : ℕ) (l : List 
   -- Where the pair is, and which keys the list has.
   pub at : slice_get m (min i (length m - 1)) ≡ Some (k, v)
   pub index : lookup eq l k ≡ None → index_of eq m k ≡ Some i
-  pub pair : lookup eq l k ≡ None → slice_get m i ≡ Some (k, v)
   pub front : (j : ℕ) → lookup eq l k ≡ None → j < i → slice_get m j ≡ slice_get l j
   pub keys : lookup eq l k ≡ None → keys_of m ≡ insert (keys_of l) i k
   pub len : length m ≡ (if is_some (lookup eq l k) then length l else length l + 1)
