@@ -46,16 +46,14 @@ module _ {K V : Type 0} where
     pub equal : (key : K → K → Bool) (value : V → V → Bool) → IsEquivalence key → IsEquivalence value → IsTrue (has_same_counts key value m l)
 
   -- Example: from `[(1,a), (2,b)]` to `[(1,a), (2,c)]` for the index 1.
-  -- The list `m` has the keys of `l`, at their indices. A query whose match is at the index `i` finds `v`, and a query
-  -- that matches no equal key finds what it found.
+  -- The list `m` is the list `l` with `v` as the value at the index `i`.
   pub record UpdatesAt (i : ℕ) (l m : List (K × V)) (v : V) : Type 0 where
+    -- What lookups find: the value for a match at the index, and what they found for any other key.
     pub own : (test : K → Bool) → index_by test l ≡ Some i → lookup_by test m ≡ Some v
     pub updates : (eq : K → K → Bool) (test : K → Bool) → IsEquivalence eq → IsKeyTest eq test → index_by test l ≡ Some i → UpdatesBy eq test l m (Some v)
-    pub keys : keys_of m ≡ keys_of l
     pub values : values_of m ≡ slice_set (values_of l) i v
-    pub indices : (test : K → Bool) → index_by test m ≡ index_by test l
-    pub len : length m ≡ length l
-    pub distinct : (eq : K → K → Bool) → HasDistinctKeys eq l → HasDistinctKeys eq m
+    -- The keys stay, each at its index.
+    pub keys : KeepsIndices l m
 
   -- Example: from `[(1,a)]`, with `[(1,b), (2,c)]`, to `[(1,b), (2,c)]`.
   -- The list `m` is the list `l` after insertions of `pairs`. If the keys of `pairs` are distinct, each key has its value in

@@ -1,8 +1,8 @@
 -- What lookups find after a write of the value at an index.
-use Rattle.std.specs.{Cmp.IsEquivalence, List.IsDistinct, Map.IsKeyTest, Map.set_value, Option.option_map_or}
-use Rattle.std.proofs.Common.{◌≡◌, ◌∙◌, ℕ, Bool, List, [], ◌∷◌, Some, IsSome, ap, cond, inl, inr, is_some, subst, sym, true≢false}
+use Rattle.std.specs.{Cmp.IsEquivalence, Map.IsKeyTest, Map.set_value, Option.option_map_or}
+use Rattle.std.proofs.Common.{◌≡◌, ◌∙◌, ℕ, Bool, List, [], ◌∷◌, Some, IsSome, ap, cond, inl, inr, is_some, sym, true≢false}
 use Rattle.std.proofs.lemmas.{Bool.cases_Bool, Map.keys-set_value}
-use Rattle.vecmap_base.specs.{Indices.KeepsIndices, Lookups.{UpdatesAt, WritesBy}, Pairs.index_by, Pairs.lookup_by, Pairs.with_value}
+use Rattle.vecmap_base.specs.{Lookups.{UpdatesAt, WritesBy}, Pairs.index_by, Pairs.lookup_by, Pairs.with_value}
 use Rattle.vecmap_base.proofs.{PairsLemmas.AtIndices.keeps_indices, PairsLemmas.ByIndex.{is_some_lookup_by, set_value_by_index}}
 use Rattle.vecmap_base.proofs.PairsLemmas.Updates.{updates_matched, updates_write, updates_written_at}
 use Rattle.vecmap_base.proofs.PairsLemmas.Values.{keys_of_with_value, values_of_with_value}
@@ -29,17 +29,11 @@ module _ {K V : Type 0} where
                 ∙ found ps (sym (ap (λ b. is_some (cond b (Some p.1) (lookup_by test ps))) n) ∙ some)
           ]
 
-  kept : (l : List (K × V)) (i : ℕ) (v : V) → KeepsIndices l (with_value l i v)
-  kept l i v = keeps_indices l (with_value l i v) (keys_of_with_value l i v)
-
   -- After a write of the value at an index.
   pub updates_at : (l : List (K × V)) (i : ℕ) (v : V) → UpdatesAt i l (with_value l i v) v
   updates_at l i v = record {
     own = λ test at. own_value test l i v at;
     updates = λ eq test o respects at. updates_written_at eq o test respects l l (lookup_by test l) i v (updates_matched eq o test respects l) at;
-    keys = keys_of_with_value l i v;
     values = values_of_with_value l i v;
-    indices = (kept l i v).indices;
-    len = (kept l i v).len;
-    distinct = λ eq d. subst (IsDistinct eq) (sym (keys_of_with_value l i v)) d;
+    keys = keeps_indices l (with_value l i v) (keys_of_with_value l i v);
   }
