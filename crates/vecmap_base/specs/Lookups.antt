@@ -56,15 +56,15 @@ module _ {K V : Type 0} where
     pub keys : KeepsIndices l m
 
   -- Example: from `[(1,a)]`, with `[(1,b), (2,c)]`, to `[(1,b), (2,c)]`.
-  -- The list `m` is the list `l` after insertions of `pairs`. If the keys of `pairs` are distinct, each key has its value in
-  -- `pairs`, or else its value in `l`.
+  -- The list `m` is the list `l` after insertions of `pairs`.
   pub record Joins (eq : K → K → Bool) (l pairs m : List (K × V)) : Type 0 where
+    -- What lookups find if the keys of `pairs` are distinct: the value in `pairs`, or else the value in `l`.
     pub lookups : HasDistinctKeys eq pairs → (q : K) → lookup eq m q ≡ option_or (lookup eq pairs q) (lookup eq l q)
     pub queries : (test : K → Bool) → IsKeyTest eq test → HasDistinctKeys eq pairs → lookup_by test m ≡ option_or (lookup_by test pairs) (lookup_by test l)
     pub distinct : HasDistinctKeys eq l → HasDistinctKeys eq m
+    -- Where the old keys are, and how many there are.
     pub indices : (test : K → Bool) (i : ℕ) → index_by test l ≡ Some i → index_by test m ≡ Some i
-    pub len : length m ≤ length l + length pairs
-    pub at_least : length l ≤ length m
+    pub len : (length l ≤ length m) × (length m ≤ length l + length pairs)
     pub not_empty : 0 < length pairs → 0 < length m
 
   -- Example: of `[(1,a), (2,b), (1,c)]`: `[(1,c), (2,b)]`.
@@ -72,8 +72,7 @@ module _ {K V : Type 0} where
   pub record MakesPairs (eq : K → K → Bool) (pairs m : List (K × V)) : Type 0 where
     pub entries : m ≡ puts eq [] pairs
     pub as_given : HasDistinctKeys eq pairs → m ≡ pairs
-    pub lookups : HasDistinctKeys eq pairs → (q : K) → lookup eq m q ≡ lookup eq pairs q
-    pub queries : (test : K → Bool) → HasDistinctKeys eq pairs → lookup_by test m ≡ lookup_by test pairs
+    -- Distinct keys, and how many there are.
     pub distinct : HasDistinctKeys eq m
     pub len : length m ≤ length pairs
     pub not_empty : 0 < length pairs → 0 < length m

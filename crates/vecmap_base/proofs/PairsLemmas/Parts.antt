@@ -93,11 +93,12 @@ module _ {K V : Type 0} (eq : K → K → Bool) (o : IsEquivalence eq) where
         queries = λ test respects. found_in_either test respects l pairs;
         distinct = distinct_after l pairs;
         indices = λ test. indices_after test l pairs;
-        len = length_puts_at_most eq l pairs;
-        at_least = length_puts_least eq l pairs;
+        len = (length_puts_least eq l pairs, length_puts_at_most eq l pairs);
         not_empty = puts_not_empty eq l pairs;
       })
 
   -- The same of the empty list.
   pub makes_pairs : (pairs m : List (K × V)) → m ≡ puts eq [] pairs → MakesPairs eq pairs m
-  makes_pairs pairs m e = grind (arith, (joins_of_puts [] pairs m e), puts_distinct, (distinct_none eq))
+  makes_pairs pairs m e =
+      let joined = joins_of_puts [] pairs m e in
+      record { entries = e; as_given = λ d. e ∙ puts_distinct pairs d; distinct = joined.distinct (distinct_none eq); len = omega (arith, joined.len.1); not_empty = joined.not_empty }
