@@ -1,5 +1,5 @@
 -- What lookups find after a change of a list of pairs. `eq` is the `==` of keys.
-use Rattle.std.specs.Prelude.{◌≡◌, [], ◌+◌, ◌<◌, ◌≤◌, ℕ, Bool, IsSome, IsTrue, List, None, Option, Some, cond, false, if◌then◌else◌, is_some, length, min, nat_lt, position, slice_get, slice_set, take, true, unwrap_or}
+use Rattle.std.specs.Prelude.{◌≡◌, [], ◌+◌, ◌<◌, ◌≤◌, ℕ, Bool, IsSome, IsTrue, List, None, Option, Some, cond, if◌then◌else◌, is_some, length, min, nat_lt, slice_set, take, unwrap_or}
 use Rattle.std.specs.{List.list_any, List.Sorted.IsPermutation, Option.option_or, Cmp.IsEquivalence}
 use Rattle.std.specs.Set.{is_member, KeepsOthers as KeepsOtherItems}
 use Rattle.std.specs.Map.{IsKeyTest, KeepsOthers, keys_of, set_value, values_of}
@@ -90,11 +90,4 @@ module _ {K V : Type 0} where
 pub record UpdatesMember {T : Type 0} (eq : T → T → Bool) (test : T → Bool) (s r : List T) (b : Bool) : Type 0 where
   pub members : (q : T) → is_member eq r q ≡ cond (test q) b (is_member eq s q)
   pub own : list_any test r ≡ b
-  pub others : (q : T) → test q ≡ false → is_member eq r q ≡ is_member eq s q
   pub queries : KeepsOtherItems eq test s r
-  pub gone : b ≡ false → position test r ≡ None
-  pub before : (other : T → Bool) (i j : ℕ) → position test s ≡ Some j → position other s ≡ Some i → i < j → position other r ≡ Some i
-  pub last : b ≡ true → list_any test s ≡ false → position test r ≡ Some (length s)
-  pub at : b ≡ true → list_any test s ≡ false → (x : T) × (slice_get r (length s) ≡ Some x) × (test x ≡ true)
-  pub len : b ≡ true → list_any test s ≡ false → length r ≡ length s + 1
-  pub kept : b ≡ true → list_any test s ≡ true → length r ≡ length s

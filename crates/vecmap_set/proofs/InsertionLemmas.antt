@@ -2,8 +2,8 @@
 use Rattle.std.specs.{Cmp.IsEquivalence, List.list_any, Map.IsKeyTest, Option.option_map_or, Set.is_member}
 use Rattle.std.proofs.Common.{◌≡◌, ◌∙◌, ◌++◌, ◌+◌, ℕ, Bool, true, false, List, [], ◌∷◌, None, Option, Some, IsTrue, ap, arith, if◌then◌else◌, inl, inr, is_some, length, length-append, not, position, refl, slice_set, subst, sym, true≢false}
 use Rattle.std.proofs.{lemmas.Bool.cases_Bool, lemmas.List.length-set}
-use Rattle.vecmap_base.specs.{Items.{add, put_item}, Lookups.UpdatesMember}
-use Rattle.vecmap_base.proofs.{IndexLemmas.{list_any_position, list_any_stored, position_none, stored_last}, ItemsLemmas.Changes.members_of_put}
+use Rattle.vecmap_base.specs.{Items.{add, item_index, put_item}, Lookups.UpdatesMember}
+use Rattle.vecmap_base.proofs.{IndexLemmas.{list_any_position, list_any_stored, position_appended, position_none}, ItemsLemmas.Changes.members_of_put}
 use Rattle.vecmap_base.proofs.{ItemsLemmas.Additions.add_absent, ItemsLemmas.Members.{members_appended_by, members_matched}}
 use Rattle.vecmap_set.specs.Insertions.{AddsItem, AddsItemBy, PutsItem}
 use Rattle.vecmap_set.proofs.{IndexLemmas.{indices_appended, indices_of_put, indices_stay}, QueryLemmas.{any_of_add, any_of_put}}
@@ -35,16 +35,19 @@ module _ {T : Type 0} (eq : T → T → Bool) (o : IsEquivalence eq) (s r : List
   is_new true h = absurd (true≢false (sym h))
   is_new false h = refl
 
+  last : (is_member eq s x ≡ false → r ≡ s ++ x ∷ []) → is_member eq s x ≡ false → item_index eq r x ≡ Some (length s)
+  last appended new = ap (position (eq x)) (appended new) ∙ position_appended (eq x) s x (position_none (eq x) s new) (o.refl x)
+
   pub adds_item : r ≡ add eq s x → AddsItem eq s x r
   adds_item e =
       let added = adds_item_by (eq x) (o.congr x) (o.refl x) e in
-      let appended : IsTrue (not (is_member eq s x)) → r ≡ s ++ x ∷ [] = λ new. e ∙ add_absent eq s x (is_new (is_member eq s x) new) in
+      let appended : is_member eq s x ≡ false → r ≡ s ++ x ∷ [] = λ new. e ∙ add_absent eq s x new in
       record {
         elements = e;
         updates = added.updates;
         any = any_of_add eq s r x e;
-        appended = appended;
-        at = λ new. stored_last s r x (appended new);
+        appended = λ new. appended (is_new (is_member eq s x) new);
+        index = last appended;
         len = added.len;
         indices = added.indices;
       }
@@ -59,6 +62,7 @@ module _ {T : Type 0} (eq : T → T → Bool) (o : IsEquivalence eq) (s r : List
     updates = members_of_put eq o s r x e;
     any = any_of_put eq s r x e;
     appended = λ new. e ∙ by (position (eq x) s) (sym (list_any_position (eq x) s) ∙ list_any_stored (eq x) s ∙ ap is_some new);
+    index = last (λ new. e ∙ by (position (eq x) s) (sym (list_any_position (eq x) s) ∙ new));
     len = ap length e ∙ len (position (eq x) s) ∙ ap (λ b. length s + (if b then 0 else 1)) (sym (list_any_position (eq x) s) ∙ list_any_stored (eq x) s);
     indices = indices_of_put eq o s r x e;
   }

@@ -1,10 +1,10 @@
 -- The records of removals of elements, from the list that is left.
 use Rattle.std.specs.{Cmp.IsEquivalence, List.IsDistinct, List.list_any, List.Sorted.IsPermutation, Map.IsKeyTest, Option.option_to_list}
-use Rattle.std.proofs.Common.{◌≡◌, ◌∙◌, ◌&&◌, ◌-◌, ◌++◌, ◌<◌, ◌≤◌, ◌||◌, ℕ, Bool, IsTrue, List, None, Option, Some, IfSome, ◌∷◌, ap, drop, inl, inr, is_some, length, length-append, remove, slice_get, sym, subst, take}
-use Rattle.std.proofs.{lemmas.List.{length-take, length-take-le, take-append-drop}, lemmas.List.Sorted.list_any-IsPermutation, lemmas.Map.Keys.IsDistinct-tail}
+use Rattle.std.proofs.Common.{◌≡◌, ◌∙◌, ◌&&◌, ◌-◌, ◌++◌, ◌<◌, ◌≤◌, ◌||◌, ℕ, Bool, IsTrue, List, None, Option, Some, IfSome, ◌∷◌, ap, arith, drop, inl, inr, is_some, length, length-append, position, remove, slice_get, sym, subst, take}
+use Rattle.std.proofs.{lemmas.List.{length-take, length-take-le, take-append-drop}, lemmas.List.Sorted.list_any-IsPermutation, lemmas.Map.Keys.IsDistinct-tail, lemmas.Option.same_Some}
 use Rattle.vecmap_base.specs.{Items.{stored_first, swap_without, swap_without_first, without_first}, Kept.Kept}
 use Rattle.vecmap_base.proofs.{DistinctLemmas.{Order.distinct_rearranged, Removals.{distinct_drop, distinct_take}}, PairsLemmas.{Lookups.compares_with, Retained.{filter_kept, length_kept}}}
-use Rattle.vecmap_base.proofs.IndexLemmas.{list_any_position, list_any_stored, position_before}
+use Rattle.vecmap_base.proofs.IndexLemmas.{list_any_position, list_any_stored, position_before, position_none}
 use Rattle.vecmap_base.proofs.ItemsLemmas.{Additions.adds_apart, Changes.{matches_of_front, matches_of_parts, members_popped}, Filtered.any_filtered, Members.{members_of_first, members_removed}}
 use Rattle.vecmap_base.proofs.TakenLemmas.{TakesAt, TakesFirst, first_by_shift, first_by_swap, last_read, last_taken, len_of_first, len_popped, one_less, taken_by_shift, taken_by_swap}
 use Rattle.vecmap_set.specs.Removals.{FindsItem, KeepsFrontItems, RemovesItemAt, RemovesItemBy, RemovesLastItem, RetainsItems, SplitsItems, Takes}
@@ -45,9 +45,22 @@ module _ {T : Type 0} (eq : T → T → Bool) (o : IsEquivalence eq) where
         let equal : eq x t.1 ≡ test t.1 = ap (λ q. q t.1) (sym (compares_with eq o test respects x passes)) in
         list_any-IsPermutation f s (t.1 ∷ r) t.2.1 ∙ (λ k. (sym (list_any_position test s ∙ ap is_some t.3) k && same x t.1 (equal ∙ t.4) k) || list_any f r)
 
+    before_first : TakesFirst s r test → (other : T → Bool) (i j : ℕ) → position test s ≡ Some j → position other s ≡ Some i → i < j → position other r ≡ Some i
+    before_first (inl n) other i j p q l = ap (position other) n.1 ∙ q
+    before_first (inr t) other i j p q l = let same = same_Some j t.0 (sym p ∙ t.3) in position_before other s r t.0 i t.2.2 (omega (arith, same, l)) q
+
     removes_by : (without : (T → Bool) → List T → List T) → r ≡ without test s → TakesFirst s r test → RemovesItemBy eq without test s r
     removes_by without e first =
-        record { elements = e; distinct = distinct_first first; updates = members_of_first eq o test respects s r first d; any = any_first first; len = len_of_first s r test first }
+        let updates = members_of_first eq o test respects s r first d in
+        record {
+          elements = e;
+          distinct = distinct_first first;
+          updates = updates;
+          gone = position_none test r updates.own;
+          before = before_first first;
+          any = any_first first;
+          len = len_of_first s r test first;
+        }
 
     pub removes_item_by : r ≡ without_first test s → RemovesItemBy eq without_first test s r
     removes_item_by e = removes_by without_first e (first_by_shift s r test e)
@@ -64,7 +77,7 @@ module _ {T : Type 0} (eq : T → T → Bool) (o : IsEquivalence eq) where
       element = at.0;
       elements = e;
       distinct = IsDistinct-tail eq x r (distinct_rearranged eq o s (x ∷ r) at.1 d);
-      updates = members_removed eq o s r i x at d;
+      updates = members_removed eq o s r x at.1 d;
       any = takes x at.1;
       len = one_less s r x at.1;
       indices = λ test j h l. position_before test s r i j at.2 l h;

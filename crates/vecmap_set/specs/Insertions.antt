@@ -1,8 +1,8 @@
 -- What the insertion of one element leaves of a set, one record for each kind of insertion. `eq` is the `==` of the elements.
 -- In the examples, `1x` and `1y` are elements that `eq` calls equal, and are not the same.
-use Rattle.std.specs.Prelude.{◌≡◌, ◌++◌, ◌∷◌, ◌+◌, ◌||◌, Bool, IsTrue, List, [], None, Some, if◌then◌else◌, is_some, length, not, slice_get, true}
+use Rattle.std.specs.Prelude.{◌≡◌, ◌++◌, ◌∷◌, ◌+◌, ◌||◌, Bool, IsTrue, List, [], None, Some, false, if◌then◌else◌, is_some, length, not, true}
 use Rattle.std.specs.{List.list_any, Set.is_member}
-use Rattle.vecmap_base.specs.{Items.{add, put_item, stored_item}, Lookups.UpdatesMember}
+use Rattle.vecmap_base.specs.{Items.{add, item_index, put_item, stored_item}, Lookups.UpdatesMember}
 use Rattle.vecmap_set.specs.{Indices.{KeepsItemIndices, KeepsMatchIndices}, Tests.AgreesOnEquals}
 
 module _ {T : Type 0} (eq : T → T → Bool) where
@@ -13,9 +13,9 @@ module _ {T : Type 0} (eq : T → T → Bool) where
     -- What queries find, and for which tests an element passes, if they do not tell equal elements apart.
     pub updates : UpdatesMember eq (eq x) s r true
     pub any : (f : T → Bool) → AgreesOnEquals eq f → list_any f r ≡ (f x || list_any f s)
-    -- Where a new element is.
+    -- Where a new element is, how many there are, and where the old ones are.
     pub appended : IsTrue (not (is_member eq s x)) → r ≡ s ++ x ∷ []
-    pub at : IsTrue (not (is_member eq s x)) → slice_get r (length s) ≡ Some x
+    pub index : is_member eq s x ≡ false → item_index eq r x ≡ Some (length s)
     pub len : length r ≡ length s + (if not (is_member eq s x) then 1 else 0)
     pub indices : KeepsMatchIndices s r
 
@@ -26,8 +26,9 @@ module _ {T : Type 0} (eq : T → T → Bool) where
     -- What queries find, and for which tests an element passes, if they do not tell equal elements apart.
     pub updates : UpdatesMember eq (eq x) s r true
     pub any : (f : T → Bool) → AgreesOnEquals eq f → list_any f r ≡ (f x || list_any f s)
-    -- Where a new element is.
+    -- Where a new element is, how many there are, and where the old ones are.
     pub appended : stored_item eq s x ≡ None → r ≡ s ++ x ∷ []
+    pub index : is_member eq s x ≡ false → item_index eq r x ≡ Some (length s)
     pub len : length r ≡ length s + (if is_some (stored_item eq s x) then 0 else 1)
     pub indices : KeepsItemIndices eq s r
 

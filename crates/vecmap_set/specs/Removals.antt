@@ -1,6 +1,6 @@
 -- What removals of elements leave of a set, one record for each kind of removal. `eq` is the `==` of the elements,
 -- and a test is what a query does with an element.
-use Rattle.std.specs.Prelude.{◌≡◌, ◌&&◌, ◌+◌, ◌-◌, ◌<◌, ◌≤◌, ◌||◌, ℕ, Bool, IfSome, IsTrue, List, Option, Some, drop, false, filter, if◌then◌else◌, is_some, length, min, nat_lt, position, slice_get, take, true, unwrap_or}
+use Rattle.std.specs.Prelude.{◌≡◌, ◌&&◌, ◌+◌, ◌-◌, ◌<◌, ◌≤◌, ◌||◌, ℕ, Bool, IfSome, IsTrue, List, None, Option, Some, drop, false, filter, if◌then◌else◌, is_some, length, min, nat_lt, position, slice_get, take, true, unwrap_or}
 use Rattle.std.specs.List.{IsDistinct, list_any}
 use Rattle.vecmap_base.specs.{Items.{adds, stored_first}, Kept.{Kept, ReturnsAt, TestsItems}, Lookups.UpdatesMember}
 use Rattle.vecmap_set.specs.{Indices.KeepsMatchIndicesBelow, Tests.AgreesOnEquals}
@@ -45,6 +45,9 @@ module _ {T : Type 0} (eq : T → T → Bool) where
     pub distinct : IsDistinct eq r
     -- What queries find: nothing for the element, and for each other what they found.
     pub updates : UpdatesMember eq test s r false
+    pub gone : position test r ≡ None
+    -- A query whose match was before the element finds it at its index.
+    pub before : (other : T → Bool) (i j : ℕ) → position test s ≡ Some j → position other s ≡ Some i → i < j → position other r ≡ Some i
     -- For which tests an element passes, if they do not tell equal elements apart.
     pub any : (f : T → Bool) → AgreesOnEquals eq f → (x : T) → IsTrue (test x) → list_any f s ≡ ((list_any test s && f x) || list_any f r)
     pub len : length r + (if list_any test s then 1 else 0) ≡ length s

@@ -1,14 +1,12 @@
 -- Which elements are present after a replacement, after the removal of the last element, in the front of a list and in
 -- clones, as contracts say it.
 use Rattle.std.specs.{Cmp.IsEquivalence, List.IsDistinct, List.list_any, Map.AreApart, Set.is_member, Prelude.{IfSome, nat_lt}}
-use Rattle.std.specs.Option.{option_map_or, option_to_list}
-use Rattle.std.proofs.Common.{◌≡◌, ◌∙◌, ◌&&◌, ◌||◌, ℕ, suc, zero, Bool, true, false, Contains, IsTrue, List, [], ◌∷◌, ◌++◌, None, Option, Some, ap, arith, drop, is_some, length, option_map, position, refl, remove, slice_get, slice_set, subst, sym, take, unwrap_or, inl, inr}
-use Rattle.std.proofs.{lemmas.Bool.Decides.nat_tests, lemmas.List.{length-set, take-append-drop, take-set-le}, lemmas.Option.none-some}
+use Rattle.std.specs.Option.{option_to_list}
+use Rattle.std.proofs.Common.{◌≡◌, ◌∙◌, ◌&&◌, ◌||◌, ℕ, suc, zero, Bool, true, false, Contains, IsTrue, List, [], ◌∷◌, ◌++◌, None, Option, Some, ap, arith, drop, option_map, position, refl, subst, sym, take, unwrap_or}
+use Rattle.std.proofs.{lemmas.Bool.Decides.nat_tests, lemmas.List.take-append-drop}
 use Rattle.std.proofs.lemmas.List.Folds.{list_any-append}
 use Rattle.vecmap_base.specs.{Clones.AreClones, Items.put_item, Lookups.UpdatesMember}
-use Rattle.vecmap_base.proofs.{IndexLemmas.{list_any_position, position_cons}, IndexLemmas.{remove_last, slice_get_last}}
-use Rattle.vecmap_base.proofs.ItemsLemmas.{Members.members_from, Members.members_removed, Recursion.put_item_cons, Members.before_own, Members.Grows, Members.KeepsBefore}
-use Rattle.vecmap_base.proofs.TakenLemmas.{taken_by_shift}
+use Rattle.vecmap_base.proofs.{IndexLemmas.{list_any_position, position_cons}, ItemsLemmas.{Members.{members_from, members_removed}, Recursion.put_item_cons}, TakenLemmas.last_taken}
 
 module _ {T : Type 0} (test : T → Bool) where
   -- Among the first `n` elements, one passes exactly if the first that passes is among them.
@@ -31,7 +29,7 @@ module _ {T : Type 0} (eq : T → T → Bool) (o : IsEquivalence eq) where
   pub members_popped : (s r : List T) (last : Option T) → s ≡ r ++ option_to_list last → IsDistinct eq s → IfSome last (λ x. UpdatesMember eq (eq x) s r false)
   members_popped s r None e d = tt
   members_popped s r (Some x) e d =
-      members_removed eq o s r (length r) x (taken_by_shift s r (length r) x (sym (ap (λ l. remove l (length r)) e ∙ remove_last r x)) (ap (λ l. slice_get l (length r)) e ∙ slice_get_last r x)) d
+      members_removed eq o s r x (last_taken s r x e) d
 
   stored : (s : List T) (x : T) → list_any (eq x) (put_item eq s x) ≡ true
   stored [] x = grind (arith, put_item_cons)
@@ -45,19 +43,7 @@ module _ {T : Type 0} (eq : T → T → Bool) (o : IsEquivalence eq) where
   pub members_of_put : (s r : List T) (x : T) → r ≡ put_item eq s x → UpdatesMember eq (eq x) s r true
   members_of_put s r x e =
       subst (λ l. UpdatesMember eq (eq x) s l true) (sym e)
-      (members_from eq o (eq x) (o.congr x) s (put_item eq s x) true (stored s x) (λ other tells apart. others_stay x other apart s) (before (position (eq x) s) refl)
-      (λ h. grows (position (eq x) s) refl))
-    where
-      put_at : (found : Option ℕ) → List T
-      put_at found = option_map_or (λ i. slice_set s i x) found (s ++ x ∷ [])
-
-      before : (found : Option ℕ) → position (eq x) s ≡ found → KeepsBefore (eq x) s (put_at found)
-      before None e = λ other i j p q l. absurd (none-some j (sym e ∙ p))
-      before (Some n) e = before_own (eq x) s (slice_set s n x) n e (take-set-le n s n x (omega arith))
-
-      grows : (found : Option ℕ) → position (eq x) s ≡ found → Grows (eq x) s (put_at found)
-      grows None e = inr (x, refl, o.refl x, list_any_position (eq x) s ∙ ap is_some e)
-      grows (Some n) e = inl (list_any_position (eq x) s ∙ ap is_some e, length-set s n x)
+      (members_from eq o (eq x) (o.congr x) s (put_item eq s x) true (stored s x) (λ other tells apart. others_stay x other apart s))
 
   -- If each clone of an element is equal to it, the same elements are present in clones of a list.
   pub is_member_clones : (C : T → T → Type 0) (l m : List T) → ((x y : T) → Contains l x → C x y → IsTrue (eq x y)) → AreClones C l m → (z : T) → is_member eq m z ≡ is_member eq l z
