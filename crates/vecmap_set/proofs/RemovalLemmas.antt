@@ -3,12 +3,12 @@ use Rattle.std.specs.{Cmp.IsEquivalence, List.IsDistinct, List.list_any, List.So
 use Rattle.std.proofs.Common.{◌≡◌, ◌∙◌, ◌&&◌, ◌-◌, ◌++◌, ◌<◌, ◌≤◌, ◌||◌, ℕ, Bool, IsTrue, List, None, Option, Some, IfSome, ◌∷◌, ap, arith, drop, inl, inr, is_some, length, length-append, position, remove, slice_get, sym, subst, take}
 use Rattle.std.proofs.{lemmas.List.{length-take, length-take-le, take-append-drop}, lemmas.List.Sorted.list_any-IsPermutation, lemmas.Map.Keys.IsDistinct-tail, lemmas.Option.same_Some}
 use Rattle.vecmap_base.specs.{Items.{stored_first, swap_without, swap_without_first, without_first}, Kept.Kept}
-use Rattle.vecmap_base.proofs.{DistinctLemmas.{Order.distinct_rearranged, Removals.{distinct_drop, distinct_take}}, PairsLemmas.{Lookups.compares_with, Retained.{filter_kept, length_kept}}}
-use Rattle.vecmap_base.proofs.IndexLemmas.{list_any_position, list_any_stored, position_before, position_none}
+use Rattle.vecmap_base.proofs.{DistinctLemmas.{Order.distinct_rearranged, Removals.{distinct_drop, distinct_take}}, PairsLemmas.Retained.{filter_kept, length_kept}}
+use Rattle.vecmap_base.proofs.IndexLemmas.{list_any_stored, position_before, position_none}
 use Rattle.vecmap_base.proofs.ItemsLemmas.{Additions.adds_apart, Changes.{matches_of_front, matches_of_parts, members_popped}, Filtered.any_filtered, Members.{members_of_first, members_removed}}
-use Rattle.vecmap_base.proofs.TakenLemmas.{TakesAt, TakesFirst, first_by_shift, first_by_swap, last_read, last_taken, len_of_first, len_popped, one_less, taken_by_shift, taken_by_swap}
+use Rattle.vecmap_base.proofs.TakenLemmas.{TakesAt, TakesFirst, first_by_shift, first_by_swap, last_read, len_of_first, len_popped, one_less, taken_by_shift, taken_by_swap}
 use Rattle.vecmap_set.specs.Removals.{FindsItem, KeepsFrontItems, RemovesItemAt, RemovesItemBy, RemovesLastItem, RetainsItems, SplitsItems, Takes}
-use Rattle.vecmap_set.specs.{Indices.MovesItemIndex, Tests.AgreesOnEquals}
+use Rattle.vecmap_set.specs.Indices.MovesItemIndex
 use Rattle.vecmap_set.proofs.IndexLemmas.{at_swap_removed, index_moved, indices_of_front, present_in_front}
 use Rattle.vecmap_set.proofs.QueryLemmas.{stored_matches}
 
@@ -39,12 +39,6 @@ module _ {T : Type 0} (eq : T → T → Bool) (o : IsEquivalence eq) where
     distinct_first (inl n) = subst (IsDistinct eq) (sym n.1) d
     distinct_first (inr t) = IsDistinct-tail eq t.1 r (distinct_rearranged eq o s (t.1 ∷ r) t.2.1 d)
 
-    any_first : TakesFirst s r test → (f : T → Bool) → AgreesOnEquals eq f → (x : T) → IsTrue (test x) → list_any f s ≡ ((list_any test s && f x) || list_any f r)
-    any_first (inl n) f same x passes = (λ t. ((sym (list_any_position test s ∙ ap is_some n.0) t && f x) || list_any f (sym n.1 t)))
-    any_first (inr t) f same x passes =
-        let equal : eq x t.1 ≡ test t.1 = ap (λ q. q t.1) (sym (compares_with eq o test respects x passes)) in
-        list_any-IsPermutation f s (t.1 ∷ r) t.2.1 ∙ (λ k. (sym (list_any_position test s ∙ ap is_some t.3) k && same x t.1 (equal ∙ t.4) k) || list_any f r)
-
     before_first : TakesFirst s r test → (other : T → Bool) (i j : ℕ) → position test s ≡ Some j → position other s ≡ Some i → i < j → position other r ≡ Some i
     before_first (inl n) other i j p q l = ap (position other) n.1 ∙ q
     before_first (inr t) other i j p q l = let same = same_Some j t.0 (sym p ∙ t.3) in position_before other s r t.0 i t.2.2 (omega (arith, same, l)) q
@@ -58,7 +52,6 @@ module _ {T : Type 0} (eq : T → T → Bool) (o : IsEquivalence eq) where
           updates = updates;
           gone = position_none test r updates.own;
           before = before_first first;
-          any = any_first first;
           len = len_of_first s r test first;
         }
 
@@ -98,13 +91,8 @@ module _ {T : Type 0} (eq : T → T → Bool) (o : IsEquivalence eq) where
       front = keeps_front_items (length s - 1) s r front;
       distinct = subst (IsDistinct eq) (sym front) (distinct_take eq (length s - 1) s d);
       updates = members_popped eq o s r last parts d;
-      any = by_element last parts;
       len = len_popped s r last parts;
     }
-      where
-        by_element : (last : Option T) → s ≡ r ++ option_to_list last → IfSome last (λ x. Takes x s r)
-        by_element None f = tt
-        by_element (Some x) f = takes x (last_taken s r x f)
 
     pub splits_items : (n : ℕ) (rest : List T) → n ≤ length s → r ≡ take n s → rest ≡ drop n s → SplitsItems eq n s r rest
     splits_items n rest within front part =

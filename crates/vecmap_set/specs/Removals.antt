@@ -3,7 +3,7 @@
 use Rattle.std.specs.Prelude.{◌≡◌, ◌&&◌, ◌+◌, ◌-◌, ◌<◌, ◌≤◌, ◌||◌, ℕ, Bool, IfSome, IsTrue, List, None, Option, Some, drop, false, filter, if◌then◌else◌, is_some, length, min, nat_lt, position, slice_get, take, true, unwrap_or}
 use Rattle.std.specs.List.{IsDistinct, list_any}
 use Rattle.vecmap_base.specs.{Items.{adds, stored_first}, Kept.{Kept, ReturnsAt, TestsItems}, Lookups.UpdatesMember}
-use Rattle.vecmap_set.specs.{Indices.KeepsMatchIndicesBelow, Tests.AgreesOnEquals}
+use Rattle.vecmap_set.specs.Indices.KeepsMatchIndicesBelow
 
 module _ {T : Type 0} where
   -- Example: 2 of `[1, 2]` for the query 2.
@@ -48,8 +48,6 @@ module _ {T : Type 0} (eq : T → T → Bool) where
     pub gone : position test r ≡ None
     -- A query whose match was before the element finds it at its index.
     pub before : (other : T → Bool) (i j : ℕ) → position test s ≡ Some j → position other s ≡ Some i → i < j → position other r ≡ Some i
-    -- For which tests an element passes, if they do not tell equal elements apart.
-    pub any : (f : T → Bool) → AgreesOnEquals eq f → (x : T) → IsTrue (test x) → list_any f s ≡ ((list_any test s && f x) || list_any f r)
     pub len : length r + (if list_any test s then 1 else 0) ≡ length s
 
   -- Example: from `[1, 2, 3]` to `[2, 3]` for the index 0, the element 1 and `remove`.
@@ -70,9 +68,8 @@ module _ {T : Type 0} (eq : T → T → Bool) where
     pub element : last ≡ slice_get s (length s - 1)
     pub front : KeepsFrontItems (length s - 1) s r
     pub distinct : IsDistinct eq r
-    -- What queries and tests find, by the removed element.
+    -- What queries find, by the removed element, and how many elements there are.
     pub updates : IfSome last (λ x. UpdatesMember eq (eq x) s r false)
-    pub any : IfSome last (λ x. Takes x s r)
     pub len : length r + (if is_some last then 1 else 0) ≡ length s
 
   -- Example: of `[1, 2, 3]` at the index 2: `[1, 2]` and `[3]`.
