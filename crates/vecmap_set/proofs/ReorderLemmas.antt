@@ -24,8 +24,7 @@ module _ {T : Type 0} (eq : T → T → Bool) (o : IsEquivalence eq) (s r : List
     elements = e;
     distinct = d;
     reordered = items_reordered s r (IsPermutation-swap s r i j h k e);
-    moves = index_moved eq o s r i j (swapped_item s r i j e h k) d;
-    moves_back = index_moved eq o s r j i (swapped_item_back s r i j e h k) d;
+    moves = (index_moved eq o s r i j (swapped_item s r i j e h k) d, index_moved eq o s r j i (swapped_item_back s r i j e h k) d);
     elsewhere = λ n f g. index_moved eq o s r n n (swapped_other s r i j n e h k f g) d;
   }
 

@@ -1,4 +1,5 @@
--- What a reversal, a swap and a move of elements leave of a set. `eq` is the `==` of the elements.
+-- What a reversal, a swap and a move of elements leave of a set. The first field is the whole list, and the others follow
+-- from it. `eq` is the `==` of the elements.
 use Rattle.std.specs.{Prelude.{◌≡◌, ◌-◌, ◌<◌, ℕ, Bool, List, false, length, nat_eq, reverse, swap}, List.IsDistinct}
 use Rattle.vecmap_base.specs.Items.{IsReorderedItems, moved}
 use Rattle.vecmap_set.specs.Indices.{MovesItemIndex}
@@ -20,8 +21,7 @@ module _ {T : Type 0} (eq : T → T → Bool) where
     pub distinct : IsDistinct eq r
     -- What queries find, and where.
     pub reordered : IsReorderedItems s r
-    pub moves : MovesItemIndex eq a b s r
-    pub moves_back : MovesItemIndex eq b a s r
+    pub moves : MovesItemIndex eq a b s r × MovesItemIndex eq b a s r
     pub elsewhere : (i : ℕ) → nat_eq i a ≡ false → nat_eq i b ≡ false → MovesItemIndex eq i i s r
 
   -- Example: from `[1, 2, 3]` to `[2, 3, 1]` for the indices 0 and 2.

@@ -1,18 +1,13 @@
 -- The keys of a list of pairs, as a list of elements. What changes the pairs changes the keys in the same way.
-use Rattle.std.proofs.lemmas.Grind.{common_steps}
 use Rattle.std.specs.{Map.keys_of, Option.option_map}
-use Rattle.std.proofs.Common.{arith, ◌≡◌, ℕ, suc, Bool, List, [], ◌∷◌, ◌++◌, Some, drop, if◌then◌else◌, insert, refl, reverse, sym, take, ap, ◌∙◌}
-use Rattle.std.proofs.lemmas.List.{drop-map, map-append, reverse-append, take-map}
+use Rattle.std.proofs.Common.{arith, ◌≡◌, ℕ, suc, Bool, List, [], ◌∷◌, ◌++◌, Some, drop, if◌then◌else◌, insert, refl, sym, take, ap, ◌∙◌}
+use Rattle.std.proofs.lemmas.List.{drop-map, map-append, take-map}
 use Rattle.vecmap_base.specs.{Items.add, Items.adds, Items.item_index, Pairs.index_of, Pairs.put, Pairs.puts}
 use Rattle.vecmap_base.proofs.{ItemsLemmas.Recursion.{add_cons, item_index_cons}, PairsLemmas.Recursion.{index_of_cons, put_cons}}
 
 module _ {K V : Type 0} where
   pub keys_of_insert : (l : List (K × V)) (i : ℕ) (k : K) (v : V) → keys_of (insert l i (k, v)) ≡ insert (keys_of l) i k
   keys_of_insert l i k v = map-append (λ p. p.0) (take i l) ((k, v) ∷ drop i l) ∙ sym (λ t. take-map (λ p. p.0) i l t ++ k ∷ drop-map (λ p. p.0) i l t)
-
-  pub keys_of_reverse : (l : List (K × V)) → keys_of (reverse l) ≡ reverse (keys_of l)
-  keys_of_reverse [] = grind (arith, common_steps, reverse-append, map-append)
-  keys_of_reverse (p ∷ ps) = grind (arith, common_steps, reverse-append, map-append, (keys_of_reverse ps))
 
 module _ {K V : Type 0} (eq : K → K → Bool) where
   pub index_of_is : (l : List (K × V)) (k : K) → index_of eq l k ≡ item_index eq (keys_of l) k
