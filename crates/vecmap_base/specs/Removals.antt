@@ -1,7 +1,7 @@
 -- What the removal of one pair, and a split, leaves of a list of pairs, one record for each kind of removal. `eq` is the `==`
 -- of keys, and a test is what a query does with a key.
 use Rattle.std.specs.Prelude.{◌≡◌, ◌+◌, ◌++◌, ◌-◌, ℕ, Bool, IfSome, List, None, Option, Some, cond, drop, if◌then◌else◌, is_some, length, option_map, slice_get}
-use Rattle.std.specs.{Cmp.IsEquivalence, Map.IsKeyTest, Map.keys_of, Option.option_or}
+use Rattle.std.specs.{Cmp.IsEquivalence, Map.IsKeyTest, Option.option_or}
 use Rattle.vecmap_base.specs.{Lookups.{KeepsFront, UpdatesBy}, Pairs.{HasDistinctKeys, index_by, lookup_by, lookup_pair_by}}
 
 module _ {K V : Type 0} where
@@ -57,7 +57,6 @@ module _ {K V : Type 0} where
   pub record SplitsAt (i : ℕ) (l m r : List (K × V)) : Type 0 where
     pub front : KeepsFront i l m
     pub part : r ≡ drop i l
-    -- Both parts together: the list, what lookups find, and the keys.
+    -- Both parts together: the list, and what lookups find.
     pub whole : m ++ r ≡ l
     pub part_lookups : (test : K → Bool) → lookup_by test l ≡ option_or (lookup_by test m) (lookup_by test r)
-    pub part_keys : keys_of m ++ keys_of r ≡ keys_of l

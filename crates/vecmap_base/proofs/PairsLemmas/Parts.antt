@@ -1,7 +1,7 @@
 -- What lookups find in the front of a list, after the insertions of many pairs, and whether anything matches in another order.
 use Rattle.std.specs.{Cmp.IsEquivalence, List.IsDistinct, List.Sorted.IsPermutation, Map.{IsKeyTest, keys_of}, Option.option_or}
-use Rattle.std.proofs.Common.{◌≡◌, ◌∙◌, ℕ, zero, suc, Bool, true, false, List, [], ◌∷◌, ◌++◌, None, Option, Some, ap, arith, cond, drop, if◌then◌else◌, is_some, length, nat_lt, option_map, refl, subst, sym, take, unwrap_or}
-use Rattle.std.proofs.{lemmas.Bool.{cases_Bool, Decides.nat_tests}, lemmas.List.{length-take, map-append, take-append-drop, take-map, append-nil, append_assoc}}
+use Rattle.std.proofs.Common.{◌≡◌, ◌∙◌, ℕ, zero, suc, Bool, true, false, List, [], ◌∷◌, ◌++◌, None, Option, Some, ap, arith, cond, if◌then◌else◌, is_some, length, nat_lt, option_map, refl, subst, sym, take, unwrap_or}
+use Rattle.std.proofs.{lemmas.Bool.{cases_Bool, Decides.nat_tests}, lemmas.List.{length-take, map-append, take-map, append-nil, append_assoc}}
 use Rattle.std.proofs.{lemmas.List.Sorted.{list_any-IsPermutation, IsPermutation-append_comm}, lemmas.Map.lookup-none}
 use Rattle.std.proofs.{lemmas.Map.Entries.none_past_head, lemmas.Map.Keys.IsDistinct-tail}
 use Rattle.vecmap_base.specs.{Lookups.{Joins, KeepsFront, MakesPairs}, Pairs.{HasDistinctKeys, index_by, lookup_by, put, puts}}
@@ -42,10 +42,6 @@ module _ {K V : Type 0} where
     values = sym (take-map (λ p. p.1) n l);
     len = length-take n l;
   }
-
-  -- The keys of both parts are all keys.
-  pub keys_of_parts : (n : ℕ) (l a b : List (K × V)) → a ≡ take n l → b ≡ drop n l → keys_of a ++ keys_of b ≡ keys_of l
-  keys_of_parts n l a b e f = (λ t. keys_of (e t) ++ keys_of (f t)) ∙ sym (map-append (λ p. p.0) (take n l) (drop n l)) ∙ ap keys_of (take-append-drop n l)
 
   -- The same of a list that is known to be the front.
   pub keeps_front_of : (n : ℕ) (l m : List (K × V)) → m ≡ take n l → KeepsFront n l m
