@@ -1,5 +1,5 @@
 -- The index of the first element of a list that passes a test.
-use Rattle.std.specs.Prelude.{◌≡◌, ℕ, zero, suc, ◌+◌, ◌<◌, Bool, true, false, ◌||◌, nat_lt, List, [], ◌∷◌, ◌++◌, Option, None, Some, IfSome, drop, is_some, length, map, position, remove, slice_get, take, refl}
+use Rattle.std.specs.Prelude.{◌≡◌, ℕ, zero, suc, ◌+◌, ◌<◌, Bool, true, false, ◌||◌, nat_lt, List, [], ◌∷◌, ◌++◌, Option, None, Some, IfSome, drop, is_some, length, map, position, slice_get, take, refl}
 use Rattle.std.specs.{List.{list_any, position_or_len}, Option.{option_and_then, option_map}}
 use Rattle.std.proofs.{lemmas.Option.{none-some, slice_get-get_or}, Math.Seq.get_or-append_seam, lemmas.List.Quantifiers.position-Some}
 use Rattle.std.proofs.Common.{cond, sym, ap, ◌∙◌, arith, get_or, take_at, true≢false, inl, inr}
@@ -10,15 +10,11 @@ pub is_some-map : {X Y : Type 0} (f : X → Y) (o : Option X) → is_some (optio
 is_some-map f None = refl
 is_some-map f (Some x) = refl
 
--- The last item of a list, and the list without it.
+-- The last item of a list.
 module _ {X : Type 0} where
   pub slice_get_last : (xs : List X) (x : X) → slice_get (xs ++ x ∷ []) (length xs) ≡ Some x
   slice_get_last [] x = refl
   slice_get_last (y ∷ ys) x = slice_get_last ys x
-
-  pub remove_last : (xs : List X) (x : X) → remove (xs ++ x ∷ []) (length xs) ≡ xs
-  remove_last [] x = refl
-  remove_last (y ∷ ys) x = ap (λ l. y ∷ l) (remove_last ys x)
 
 module _ {X : Type 0} (p : X → Bool) where
   -- The first index in a list with one element more.

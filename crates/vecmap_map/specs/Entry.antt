@@ -85,7 +85,8 @@ module _ {K V : Type 0} where
   AreEntriesWith is_clone (Occupied o) v l = l ≡ entries_with (Occupied o) v
   AreEntriesWith is_clone (Vacant e) v l = (k : K) × is_clone e.key k × (l ≡ e.map.now.entries ++ (k, v) ∷ [])
 
-  -- The entry o is what `insert_entry` of v at e returns.
+  -- The entry o is what `insert_entry` of v at e returns. So what a later write or removal through o leaves follows from
+  -- its pairs and its index.
   pub record IsInserted (is_clone : K → K → Type 0) (e : Entry K V) (v : V) (o : OccupiedEntry K V) : Type 0 where
     pub same_map : o.map.ghost_name ≡ (entry_ref e).ghost_name
     pub key : o.key ≡ entry_key e
@@ -93,7 +94,3 @@ module _ {K V : Type 0} where
     pub value : entry_value (Occupied o) ≡ Some v
     pub entries : AreEntriesWith is_clone e v o.map.now.entries
     pub capacity : KeepsRoomAt (entry_index_of e) (entry_map e) o.map.now
-    -- What a later write or removal through o leaves.
-    pub write : (w : V) → AreEntriesWith is_clone e w (entries_with (Occupied o) w)
-    pub removal : entries_without (Occupied o) ≡ entries_without e
-    pub swap_removal : entries_swap_without (Occupied o) ≡ entries_swap_without e

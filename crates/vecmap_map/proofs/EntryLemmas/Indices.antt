@@ -1,10 +1,10 @@
 -- Removals after a write at an index or after an append, and the item that is then found. By induction on the list.
-use Rattle.std.proofs.Common.{◌≡◌, ℕ, zero, suc, ◌<◌, List, [], ◌∷◌, ◌++◌, Some, ap, arith, length, refl, remove, set, slice_get, sym, take_at, ◌∙◌}
+use Rattle.std.proofs.Common.{◌≡◌, ℕ, zero, suc, ◌<◌, List, [], ◌∷◌, ◌++◌, Some, ap, arith, length, refl, remove, set, slice_get, sym, ◌∙◌}
 use Rattle.std.proofs.Math.Nat.{eq-or-lt_of_le}
-use Rattle.std.proofs.lemmas.List.{get_or-set_other, get_or_default, length-append, length-set, set-set, take-set-le}
+use Rattle.std.proofs.lemmas.List.{get_or-set_other, get_or_default, length-set, set-set, take-set-le}
 use Rattle.std.specs.{List.swap_remove, Option.option_map_or}
 use Rattle.vecmap_base.specs.Items.{swap_without}
-pub use Rattle.vecmap_base.proofs.IndexLemmas.{remove_last, slice_get_last}
+pub use Rattle.vecmap_base.proofs.IndexLemmas.{slice_get_last}
 
 module _ {X : Type 0} where
   pub item_there : (l : List X) (i : ℕ) → i < length l → (x : X) × (slice_get l i ≡ Some x)
@@ -34,6 +34,3 @@ module _ {X : Type 0} where
   pub set_last : (l : List X) (x y : X) → set (l ++ x ∷ []) (length l) y ≡ l ++ y ∷ []
   set_last [] x y = refl
   set_last (z ∷ l) x y = ap (λ m. z ∷ m) (set_last l x y)
-
-  pub swap_without_last : (l : List X) (x : X) → swap_without (l ++ x ∷ []) (length l) ≡ l
-  swap_without_last l x = grind (arith, length-append, slice_get_last, take-set-le, take_at)
