@@ -27,7 +27,6 @@ module _ {K V : Type 0} (eq : K → K → Bool) (o : IsEquivalence eq) (test : K
         index = at ∙ ap (λ found. Some (unwrap_or found (length m.entries))) (sym at);
         indices = λ other j found. found;
         len = ap (λ b. if b then length m.entries else length m.entries + 1) (sym some);
-        stays = λ _. refl;
         updates = updates;
         written = λ v. updates_written_at eq o test respects m.entries m.entries (lookup_by test m.entries) i v updates at;
       }
@@ -44,7 +43,6 @@ module _ {K V : Type 0} (eq : K → K → Bool) (o : IsEquivalence eq) (test : K
         index = grind (arith, appended);
         indices = grind (arith, appended);
         len = grind (arith, appended);
-        stays = grind (arith, appended);
         updates = updates;
         written = λ v. updates_written_at eq o test respects old.entries new.entries (lookup_by test new.entries) i v updates at;
       }

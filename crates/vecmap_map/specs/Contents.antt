@@ -108,13 +108,14 @@ module _ {K V : Type 0} where
   pub record FindsOrAppends (eq : K → K → Bool) (test : K → Bool) (made : K × V → Type 0) (old new : Contents K V) (i : ℕ) : Type 0 where
     pub at : HasMatchAt test new.entries i
     pub unchanged : IsSome (lookup_by test old.entries) → new ≡ old
+    -- What a new key has if its value, or its pair, is known.
     pub value : (v : V) → lookup_by test old.entries ≡ None → ((pair : K × V) → made pair → pair.1 ≡ v) → lookup_by test new.entries ≡ Some v
     pub pair : (p : K × V) → lookup_by test old.entries ≡ None → ((pair : K × V) → made pair → pair ≡ p) → slice_get new.entries (length old.entries) ≡ Some p
+    -- Where the keys are, and how many there are.
     pub index : index_by test new.entries ≡ Some (unwrap_or (index_by test old.entries) (length old.entries))
     pub indices : (other : K → Bool) (i : ℕ) → index_by other old.entries ≡ Some i → index_by other new.entries ≡ Some i
     pub len : length new.entries ≡ (if is_some (lookup_by test old.entries) then length old.entries else length old.entries + 1)
     -- What other keys find: what they found, also after a write at `i`.
-    pub stays : IsSome (lookup_by test old.entries) → lookup_by test new.entries ≡ lookup_by test old.entries
     pub updates : UpdatesBy eq test old.entries new.entries (lookup_by test new.entries)
     pub written : (v : V) → UpdatesBy eq test old.entries (with_value new.entries i v) (Some v)
 
