@@ -6,7 +6,7 @@ use Rattle.vecmap_base.specs.{Items.{add, item_index, put_item}, Lookups.Updates
 use Rattle.vecmap_base.proofs.{IndexLemmas.{list_any_position, list_any_stored, position_appended, position_none}, ItemsLemmas.Changes.members_of_put}
 use Rattle.vecmap_base.proofs.{ItemsLemmas.Additions.add_absent, ItemsLemmas.Members.{members_appended_by, members_matched}}
 use Rattle.vecmap_set.specs.Insertions.{AddsItem, AddsItemBy, PutsItem}
-use Rattle.vecmap_set.proofs.{IndexLemmas.{indices_appended, indices_of_put, indices_stay}, QueryLemmas.{any_of_add, any_of_put}}
+use Rattle.vecmap_set.proofs.{IndexLemmas.{indices_appended, indices_of_put, indices_stay}, QueryLemmas.any_of_add}
 
 module _ {T : Type 0} (eq : T → T → Bool) (o : IsEquivalence eq) (s r : List T) (x : T) where
   module _ (test : T → Bool) (respects : IsKeyTest eq test) where
@@ -60,7 +60,6 @@ module _ {T : Type 0} (eq : T → T → Bool) (o : IsEquivalence eq) (s r : List
   puts_item e = record {
     elements = e;
     updates = members_of_put eq o s r x e;
-    any = any_of_put eq s r x e;
     appended = λ new. e ∙ by (position (eq x) s) (sym (list_any_position (eq x) s) ∙ list_any_stored (eq x) s ∙ ap is_some new);
     index = last (λ new. e ∙ by (position (eq x) s) (sym (list_any_position (eq x) s) ∙ new));
     len = ap length e ∙ len (position (eq x) s) ∙ ap (λ b. length s + (if b then 0 else 1)) (sym (list_any_position (eq x) s) ∙ list_any_stored (eq x) s);

@@ -2,7 +2,7 @@
 use Rattle.std.specs.{Borrow.Bor, List.list_any, Option.option_and_then, Prelude.{IfSome, option_copied}, Set.is_member}
 use Rattle.std.proofs.Common.{arith, ◌≡◌, ◌∙◌, ◌||◌, ℕ, Bool, true, IsTrue, List, [], ◌∷◌, None, Option, Some, ap, position, refl}
 use Rattle.std.proofs.{Common.{slice_get, sym}, lemmas.{Bool.cases_Bool, List.Folds.list_any-append, Option.none-some}}
-use Rattle.vecmap_base.{specs.Items.{add, put_item, stored_first}, proofs.ItemsLemmas.{Members.or_true, Recursion.put_item_cons}}
+use Rattle.vecmap_base.{specs.Items.{add, stored_first}, proofs.ItemsLemmas.Members.or_true}
 use Rattle.vecmap_set.proofs.IndexLemmas.{found_item_at}
 
 module _ {T : Type 0} (test : T → Bool) where
@@ -30,13 +30,6 @@ module _ {T : Type 0} (eq : T → T → Bool) (f : T → Bool) (same : (x y : T)
   any_added : (s : List T) (x : T) → list_any f (add eq s x) ≡ (f x || list_any f s)
   any_added s x = grind (arith, cases_Bool, any_there, list_any-append, or_true)
 
-  any_put : (s : List T) (x : T) → list_any f (put_item eq s x) ≡ (f x || list_any f s)
-  any_put [] x = grind (arith, put_item_cons)
-  any_put (y ∷ ys) x = grind (arith, put_item_cons, (any_put ys x))
-
 module _ {T : Type 0} (eq : T → T → Bool) (s r : List T) (x : T) where
   pub any_of_add : r ≡ add eq s x → (f : T → Bool) → ((x y : T) → eq x y ≡ true → f y ≡ f x) → list_any f r ≡ (f x || list_any f s)
   any_of_add e f same = ap (list_any f) e ∙ any_added eq f same s x
-
-  pub any_of_put : r ≡ put_item eq s x → (f : T → Bool) → ((x y : T) → eq x y ≡ true → f y ≡ f x) → list_any f r ≡ (f x || list_any f s)
-  any_of_put e f same = ap (list_any f) e ∙ any_put eq f same s x

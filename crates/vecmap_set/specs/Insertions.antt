@@ -1,5 +1,6 @@
--- What the insertion of one element leaves of a set, one record for each kind of insertion. `eq` is the `==` of the elements.
--- In the examples, `1x` and `1y` are elements that `eq` calls equal, and are not the same.
+-- What the insertion of one element leaves of a set, one record for each kind of insertion. The first field is the whole
+-- list, and the others follow from it. `eq` is the `==` of the elements. In the examples, `1x` and `1y` are elements that
+-- `eq` calls equal, and are not the same.
 use Rattle.std.specs.Prelude.{◌≡◌, ◌++◌, ◌∷◌, ◌+◌, ◌||◌, Bool, IsTrue, List, [], None, Some, false, if◌then◌else◌, is_some, length, not, true}
 use Rattle.std.specs.{List.list_any, Set.is_member}
 use Rattle.vecmap_base.specs.{Items.{add, item_index, put_item, stored_item}, Lookups.UpdatesMember}
@@ -23,9 +24,8 @@ module _ {T : Type 0} (eq : T → T → Bool) where
   -- The list `r` is the list `s` after an insertion of `x` that replaces an equal element; a new one is appended.
   pub record PutsItem (s : List T) (x : T) (r : List T) : Type 0 where
     pub elements : r ≡ put_item eq s x
-    -- What queries find, and for which tests an element passes, if they do not tell equal elements apart.
+    -- What queries find.
     pub updates : UpdatesMember eq (eq x) s r true
-    pub any : (f : T → Bool) → AgreesOnEquals eq f → list_any f r ≡ (f x || list_any f s)
     -- Where a new element is, how many there are, and where the old ones are.
     pub appended : stored_item eq s x ≡ None → r ≡ s ++ x ∷ []
     pub index : is_member eq s x ≡ false → item_index eq r x ≡ Some (length s)
