@@ -1,7 +1,7 @@
 -- What calls that insert many pairs leave.
 use Rattle.std.specs.{Prelude.{◌≡◌, ◌<◌, ◌≤◌, ◌⊎◌, Bool, List, [], OnErr, Option, Result, length, map}, Iterator.Count}
 use Rattle.std.specs.declared.clone.Clone as clone
-use Rattle.vecmap_base.specs.{Bulk.{HasRoomForAll, HasRoomForHalf, StopsAt}, Clones.{ArePairClones, ClonesAreSame}, Pairs.{HasDistinctKeys, lookup, puts}}
+use Rattle.vecmap_base.specs.{Bulk.{HasRoomForAll, HasRoomForHalf, StopsAt}, Clones.{ArePairClones, ClonesAreSame}, Lookups.MakesPairs, Pairs.{HasDistinctKeys, puts}}
 use Rattle.vecmap_map.specs.Contents.{Contents, HasRoom, Refuses}
 
 module _ {K V : Type 0} where
@@ -27,10 +27,9 @@ module _ {K V U T A E : Type 0} (becomes : U → T → Type 0) (steps : T → Op
 -- The list `m` is what insertions of clones of `pairs` make.
 pub record MakesClones {K V : Type 0} (eq : K → K → Bool) (key_clone : K → K → Type 0) (value_clone : V → V → Type 0) (pairs m : List (K × V)) : Type 0 where
   pub entries : (clones : List (K × V)) × ArePairClones key_clone value_clone pairs clones × (m ≡ puts eq [] clones)
-  -- What lookups find if each clone is the same as its original.
-  pub lookups : ClonesAreSame key_clone → ClonesAreSame value_clone → HasDistinctKeys eq pairs → (q : K) → lookup eq m q ≡ lookup eq pairs q
+  -- If each clone is the same as its original, this is what insertions of `pairs` make.
+  pub same : ClonesAreSame key_clone → ClonesAreSame value_clone → MakesPairs eq pairs m
   pub distinct : HasDistinctKeys eq m
-  pub len : length m ≤ length pairs
 
 module _ {K V : Type 0} (eq : K → K → Bool) where
   -- Example: `Puts eq (map_of [(1x, a)] 4) [(1y, b), (2x, c)] (map_of [(1x, b), (2x, c)] 4)`.
