@@ -75,14 +75,15 @@ module _ {F K V E : Type 0} (c : Mut F (Bor K × (MutBor V × Unit {0})) (Result
   -- Example: a closure that adds 1 below 9, of `[(1,5), (2,9), (3,5)]`: `[(1,6), (2,9), (3,5)]`.
   -- The calls at the first pairs of `l` returned `Ok`, and the next one `e`.
   pub record StoppedAt (e : E) (f : F) (l m : List (K × V)) : Type 0 where
+    -- The pairs before the call that failed and after it, what the calls before it wrote, and what it wrote itself.
     pub before : List (K × V)
     pub after : List (K × V)
     pub written : List (K × V)
     pub pair : K × V
     pub left : K × V
+    -- The state in which it was called, and how these make both lists.
     pub state : F
-    pub last : F
     pub all : l ≡ before ++ pair ∷ after
     pub updated : Updated (WritesValueAt c (Ok tt)) f before written state
-    pub failed : WritesValueAt c (Err e) state pair left last
+    pub failed : (last : F) × WritesValueAt c (Err e) state pair left last
     pub leaves : m ≡ written ++ left ∷ after

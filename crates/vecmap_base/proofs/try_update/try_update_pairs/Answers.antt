@@ -27,10 +27,9 @@ returns-in-Err-clause-err g c =
       pair = get_or l.pairs i c.pair-item.result;
       left = c.try_value.new.pair;
       state = l.f;
-      last = c.try_value.new.f;
       all = split R c.args.f l.f c.args.pairs.now l.pairs i c.pair-item.result l.invariant c.loop-pair-test.true;
       updated = l.invariant.run;
-      failed = c.in-Err.ensures.called;
+      failed = (c.try_value.new.f, c.in-Err.ensures.called);
       leaves = written_split R c.args.f l.f c.args.pairs.now l.pairs i c.pair-item.result l.invariant c.loop-pair-test.true c.try_value.new.pair;
     }
 
