@@ -35,9 +35,11 @@ module _ {F K V : Type 0} where
 
   -- A call over `&mut K` and `&mut V` at the pair `p` may return `b`, and leave the pair `q` and the closure `g`.
   pub record CallsAtPairMut (c : Mut F (MutBor K × (MutBor V × Unit {0})) (Bool × (MutBor K × (MutBor V × Unit {0})))) (f : F) (p : K × V) (b : Bool) (q : K × V) (g : F) : Type 0 where
+    -- The references that are passed, and what they show.
     pub key : MutBor K
     pub value : MutBor V
     pub shows : (key.now ≡ p.0) × (value.now ≡ p.1)
+    -- The call, and what it leaves.
     pub left_key : MutBor K
     pub left_value : MutBor V
     pub called : Called c f (key, (value, tt)) (b, (left_key, (left_value, tt))) g

@@ -21,6 +21,7 @@ module _ {K V : Type 0} where
   -- The list `m` has the keys of `l`, each at its index.
   pub record KeepsIndices (l m : List (K × V)) : Type 0 where
     pub keys : keys_of m ≡ keys_of l
+    -- What follows: the index of each match, how many pairs there are, and the value at the index of a match.
     pub indices : (test : K → Bool) → index_by test m ≡ index_by test l
     pub len : length m ≡ length l
     pub value : (test : K → Bool) (i : ℕ) → index_by test l ≡ Some i → value_at m i ≡ lookup_by test m
@@ -28,8 +29,10 @@ module _ {K V : Type 0} where
   -- Example: from `[(1,a), (2,b), (3,c)]` to `[(1,a), (3,c)]` for the index 1.
   -- A match before the index `i` stays at its index, and one after it moves one index to the front.
   pub record ShiftsIndices (i : ℕ) (l m : List (K × V)) : Type 0 where
+    -- The index of each match, by where it was.
     pub before : (test : K → Bool) (j : ℕ) → index_by test l ≡ Some j → j < i → index_by test m ≡ Some j
     pub after : (test : K → Bool) (j : ℕ) → index_by test l ≡ Some j → i < j → index_by test m ≡ Some (j - 1)
+    -- The pairs in front, and the keys and the values, in order.
     pub front : (j : ℕ) → j < i → slice_get m j ≡ slice_get l j
     pub keys : keys_of m ≡ remove (keys_of l) i
     pub values : values_of m ≡ remove (values_of l) i

@@ -19,6 +19,7 @@ moved s from to = option_map_or (λ x. insert (remove s from) to x) (slice_get s
 -- The list `r` has the elements of `s`, as far as tests, lengths and an equivalence can tell.
 pub record IsReorderedItems {T : Type 0} (s r : List T) : Type 0 where
   pub rearranged : IsPermutation s r
+  -- What follows: whether a query matches, how many elements there are, and that both lists are equal as sets.
   pub matches : (test : T → Bool) → list_any test r ≡ list_any test s
   pub len : length r ≡ length s
   pub equal : (eq : T → T → Bool) → IsEquivalence eq → IsTrue (has_same_items eq r s)

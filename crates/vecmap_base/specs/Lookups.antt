@@ -1,4 +1,5 @@
--- What lookups find after a change of a list of pairs. `eq` is the `==` of keys.
+-- What lookups find after a change of a list of pairs. If a field of a record is the whole list, the others follow from it.
+-- `eq` is the `==` of keys.
 use Rattle.std.specs.Prelude.{◌≡◌, [], ◌+◌, ◌<◌, ◌≤◌, ℕ, Bool, IsSome, IsTrue, List, None, Option, Some, cond, if◌then◌else◌, is_some, length, min, nat_lt, slice_set, take, unwrap_or}
 use Rattle.std.specs.{List.list_any, List.Sorted.IsPermutation, Option.option_or, Cmp.IsEquivalence}
 use Rattle.std.specs.Set.{is_member, KeepsOthers as KeepsOtherItems}
@@ -12,6 +13,7 @@ module _ {K V : Type 0} (eq : K → K → Bool) where
     pub lookups : (q : K) → lookup eq m q ≡ cond (test q) w (lookup eq l q)
     pub own : lookup_by test m ≡ w
     pub queries : KeepsOthers eq test l m
+    -- Distinct keys stay distinct.
     pub distinct : HasDistinctKeys eq l → HasDistinctKeys eq m
 
   -- Example: from `[(1,a), (2,b)]` to `[(2,b), (1,a)]`.
@@ -36,12 +38,13 @@ module _ {K V : Type 0} where
     pub len : length m ≡ min n (length l)
 
   -- Example: from `[(1,a), (2,b)]` to `[(2,b), (1,a)]`.
-  -- So a query matches a key of `m` exactly if it matches one of `l`, and finds what it found if all keys are distinct.
   -- The list `m` has the pairs of the list `l`, in some order.
   pub record IsReordered (l m : List (K × V)) : Type 0 where
     pub rearranged : IsPermutation l m
+    -- Whether a query matches a key, and what lookups find if all keys are distinct.
     pub matches : (test : K → Bool) → is_some (index_by test m) ≡ is_some (index_by test l)
     pub lookups : (eq : K → K → Bool) → IsEquivalence eq → HasDistinctKeys eq l → KeepsLookups eq l m
+    -- How many pairs there are, and that both lists are equal as maps.
     pub len : length m ≡ length l
     pub equal : (key : K → K → Bool) (value : V → V → Bool) → IsEquivalence key → IsEquivalence value → IsTrue (has_same_counts key value m l)
 

@@ -1,5 +1,5 @@
--- What the removal of one pair, and a split, leaves of a list of pairs, one record for each kind of removal. `eq` is the `==`
--- of keys, and a test is what a query does with a key.
+-- What the removal of one pair, and a split, leaves of a list of pairs, one record for each kind of removal. One field is the
+-- whole list, and the others follow from it. `eq` is the `==` of keys, and a test is what a query does with a key.
 use Rattle.std.specs.Prelude.{◌≡◌, ◌+◌, ◌++◌, ◌-◌, ℕ, Bool, IfSome, List, None, Option, Some, cond, drop, if◌then◌else◌, is_some, length, option_map, slice_get}
 use Rattle.std.specs.{Cmp.IsEquivalence, Map.IsKeyTest, Option.option_or}
 use Rattle.vecmap_base.specs.{Lookups.{KeepsFront, UpdatesBy}, Pairs.{HasDistinctKeys, index_by, lookup_by, lookup_pair_by}}
@@ -17,9 +17,10 @@ module _ {K V : Type 0} where
   -- The list `m` is the list `l` without the first pair whose key passes the test, and with the others as `without` says.
   pub record RemovesBy (eq : K → K → Bool) (without : (K → Bool) → List (K × V) → List (K × V)) (test : K → Bool) (l m : List (K × V)) : Type 0 where
     pub entries : m ≡ without test l
-    -- What lookups find: nothing for the key, and for each other key what they found.
+    -- What lookups find if all keys are distinct: nothing for the key, and for each other key what they found.
     pub updates : HasDistinctKeys eq l → UpdatesBy eq test l m None
     pub gone : HasDistinctKeys eq l → index_by test m ≡ None
+    -- How many pairs there are.
     pub len : length m + (if is_some (lookup_by test l) then 1 else 0) ≡ length l
 
   -- Example: the key 1, from `[(1,a), (2,b)]` to `[(2,b)]`.
@@ -40,6 +41,7 @@ module _ {K V : Type 0} where
     -- What lookups find, by the removed key and by its index.
     pub lookups : ForgetsKey p.0 l m
     pub gone : ForgetsIndex i l m
+    -- How many pairs there are.
     pub len : length m + 1 ≡ length l
 
   -- Example: from `[(1,a), (2,b)]` to `[(1,a)]`, with `Some (2,b)`.

@@ -53,9 +53,11 @@ module _ {F K V R : Type 0} (c : Mut F (Bor K × (MutBor V × Unit {0})) (R × (
 
   -- A call at a `&` to `k` and a `&mut` to `v` may return `r`, and leave `w` there and the closure `g`.
   pub record WritesValue (r : R) (f : F) (k : K) (v w : V) (g : F) : Type 0 where
+    -- The references that are passed, and what they show.
     pub key : Bor K
     pub value : MutBor V
     pub shows : (key.now ≡ k) × (value.now ≡ v)
+    -- The call, and what it leaves.
     pub left : MutBor V
     pub called : Called c f (key, (value, tt)) (r, (left, tt)) g
     pub leaves : left.now ≡ w

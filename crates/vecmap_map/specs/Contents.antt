@@ -65,9 +65,11 @@ module _ {K V : Type 0} where
   -- Example: `¬ (Reserves 1 (map_of [(k, a)] 1) failed (map_of [(k, a)] 2))`.
   -- What a call that reserves capacity for `additional` more pairs returns and leaves.
   pub record Reserves {A E : Type 0} (additional : ℕ) (old : Contents K V) (result : Result A E) (new : Contents K V) : Type 0 where
+    -- What stays, and how much fits afterwards.
     pub entries : new.entries ≡ old.entries
     pub room : OnOk result (HasRoom new additional)
     pub capacity : old.capacity ≤ new.capacity
+    -- When the call succeeds, and what it leaves if it has nothing to do, or fails.
     pub some : OnErr result (0 < additional)
     pub succeeds : HasRoom old additional → IsOk result
     pub unchanged : HasRoom old additional → new ≡ old

@@ -88,9 +88,11 @@ module _ {K V : Type 0} where
   -- The entry o is what `insert_entry` of v at e returns. So what a later write or removal through o leaves follows from
   -- its pairs and its index.
   pub record IsInserted (is_clone : K → K → Type 0) (e : Entry K V) (v : V) (o : OccupiedEntry K V) : Type 0 where
+    -- The entry: the reference to the map, the key, its index and its value.
     pub same_map : o.map.ghost_name ≡ (entry_ref e).ghost_name
     pub key : o.key ≡ entry_key e
     pub index : o.index ≡ entry_index e
     pub value : entry_value (Occupied o) ≡ Some v
+    -- The map that it holds.
     pub entries : AreEntriesWith is_clone e v o.map.now.entries
     pub capacity : KeepsRoomAt (entry_index_of e) (entry_map e) o.map.now

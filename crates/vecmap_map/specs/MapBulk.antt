@@ -17,8 +17,10 @@ module _ {K V U T A E : Type 0} (becomes : U → T → Type 0) (steps : T → Op
   -- Example: of `(2,b)` on a full `[(1,a)]`, if allocation fails: the same map.
   -- The capacity after a call that inserts the items of `iter`, and what the call leaves on `Err`. Distinct keys stay distinct.
   pub record Extends (eq : K → K → Bool) (refuses : Contents K V → Contents K V → List A → A → Type 0) (iter : U) (old : Contents K V) (result : Result (Unit {0}) E) (new : Contents K V) : Type 0 where
+    -- The capacity.
     pub capacity : old.capacity ≤ new.capacity
     pub capacity_stays : HasRoomForAll becomes left iter (HasRoom old) → new.capacity ≡ old.capacity
+    -- What is left on `Err`, and whether keys stay distinct.
     pub err : OnErr result ((new ≡ old) ⊎ StopsAt becomes steps iter (refuses old new))
     pub distinct : HasDistinctKeys eq old.entries → HasDistinctKeys eq new.entries
     pub late_err : 0 < length old.entries → HasRoomForHalf becomes left iter (HasRoom old) → OnErr result (StopsAt becomes steps iter (refuses old new))

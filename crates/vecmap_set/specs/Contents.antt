@@ -33,9 +33,11 @@ module _ {T : Type 0} where
   -- Example: `¬ (Reserves 1 (set_of [a] 1) failed (set_of [a] 2))`.
   -- What a call that reserves capacity for `additional` more elements returns and leaves.
   pub record Reserves {A E : Type 0} (additional : ℕ) (old : Contents T) (result : Result A E) (new : Contents T) : Type 0 where
+    -- What stays, and how much fits afterwards.
     pub elements : new.elements ≡ old.elements
     pub room : OnOk result (HasRoom new additional)
     pub capacity : old.capacity ≤ new.capacity
+    -- When the call succeeds, and what it leaves if it has nothing to do, or fails.
     pub some : OnErr result (0 < additional)
     pub succeeds : HasRoom old additional → IsOk result
     pub unchanged : HasRoom old additional → new ≡ old

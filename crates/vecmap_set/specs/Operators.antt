@@ -30,6 +30,7 @@ module _ {T : Type 0} (eq : T → T → Bool) (is_clone : T → T → Type 0) (l
 -- Example: of `||` and `[1] | [2]`: it has 1 and 2.
 -- The list `r` has an element, or a match of a query, exactly if `combine` says so of its presence in `a` and in `b`.
 pub record CombinesMembers {T : Type 0} (eq : T → T → Bool) (combine : Bool → Bool → Bool) (a b r : List T) : Type 0 where
+  -- Which elements and queries match, and how many elements there are.
   pub members : (q : T) → is_member eq r q ≡ combine (is_member eq a q) (is_member eq b q)
   pub queries : (test : T → Bool) → IsKeyTest eq test → list_any test r ≡ combine (list_any test a) (list_any test b)
   pub len : length r ≤ length a + length b

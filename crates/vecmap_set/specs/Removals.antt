@@ -1,5 +1,5 @@
--- What removals of elements leave of a set, one record for each kind of removal. `eq` is the `==` of the elements,
--- and a test is what a query does with an element.
+-- What removals of elements leave of a set, one record for each kind of removal. One field is the whole list, and the others
+-- follow from it. `eq` is the `==` of the elements, and a test is what a query does with an element.
 use Rattle.std.specs.Prelude.{◌≡◌, ◌&&◌, ◌+◌, ◌-◌, ◌<◌, ◌≤◌, ◌||◌, ℕ, Bool, IfSome, IsTrue, List, None, Option, Some, drop, false, filter, if◌then◌else◌, is_some, length, min, nat_lt, position, slice_get, take, true, unwrap_or}
 use Rattle.std.specs.List.{IsDistinct, list_any}
 use Rattle.vecmap_base.specs.{Items.{adds, stored_first}, Kept.{Kept, ReturnsAt, TestsItems}, Lookups.UpdatesMember}
@@ -25,6 +25,7 @@ module _ {T : Type 0} where
     -- What queries find, by the index of the match.
     pub matches : (test : T → Bool) → list_any test r ≡ (list_any test s && nat_lt (unwrap_or (position test s) 0) n)
     pub present : (test : T → Bool) (i : ℕ) → position test s ≡ Some i → i < n → list_any test r ≡ true
+    -- How many elements there are, and at which indices.
     pub len : length r ≡ min n (length s)
     pub indices : KeepsMatchIndicesBelow n s r
 

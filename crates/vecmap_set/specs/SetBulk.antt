@@ -1,5 +1,6 @@
--- What the calls that add or copy many elements at once leave. `eq` is the `==` of the elements. In the examples, `1x` and
--- `1y` are elements that `eq` calls equal, and are not the same.
+-- What the calls that add or copy many elements at once leave. The field on the whole list comes first, and the others
+-- follow from it. `eq` is the `==` of the elements. In the examples, `1x` and `1y` are elements that `eq` calls equal, and
+-- are not the same.
 use Rattle.std.specs.Prelude.{◌≡◌, ◌+◌, ◌++◌, ◌<◌, ◌≤◌, ◌||◌, Bool, Contains, IsTrue, List, OnErr, Option, Result, [], length, map}
 use Rattle.std.specs.{Iterator.Count, List.IsDistinct, Set.is_member}
 use Rattle.vecmap_base.specs.{Bulk.{HasRoomForAll, StopsAt}, Clones.AreClones, Equality.has_same_items, Items.{adds, both}}
@@ -39,6 +40,7 @@ module _ {T : Type 0} (eq : T → T → Bool) where
   pub record AddsClones (is_clone : T → T → Type 0) (xs r : List T) : Type 0 where
     pub elements : (clones : List T) × AreClones is_clone xs clones × (r ≡ adds eq [] clones)
     pub distinct : IsDistinct eq r
+    -- Which elements are present, if each clone is equal to its original, and how many there are.
     pub members : ((x y : T) → Contains xs x → is_clone x y → IsTrue (eq x y)) → (q : T) → is_member eq r q ≡ is_member eq xs q
     pub len : length r ≤ length xs
 
@@ -47,6 +49,7 @@ module _ {T : Type 0} (eq : T → T → Bool) where
   pub record CopiesItems (is_clone : T → T → Type 0) (s r : List T) : Type 0 where
     pub elements : AreClones is_clone s r
     pub distinct : IsDistinct eq r
+    -- Which elements are present, how many there are, and that both lists are equal as sets.
     pub members : (q : T) → is_member eq r q ≡ is_member eq s q
     pub len : length r ≡ length s
     pub equal : IsTrue (has_same_items eq r s)
