@@ -32,7 +32,7 @@ const MAX_BYTES_FOR_REVERSALS: usize = 2048;
 pub fn move_range_last<T>(items: &mut Vec<T>, start: usize, end: usize) -> usize
     requires within { IsRangeWithin start end (length items.old.items) }
     ensures count { result ≡ length items.old.items - (end - start) }
-    ensures items { items.new.items
+    ensures list { items.new.items
         ≡ remove_range items.old.items start end
         ++ reverse (slice_range items.old.items start end) }
     ensures capacity { vec_capacity items.new ≡ vec_capacity items.old }
@@ -69,7 +69,7 @@ pub fn move_range_last<T>(items: &mut Vec<T>, start: usize, end: usize) -> usize
 /// ```
 pub fn reverse_from<T>(items: &mut Vec<T>, start: usize)
     requires within { start ≤ length items.old.items }
-    ensures items { items.new.items
+    ensures list { items.new.items
         ≡ take start items.old.items ++ reverse (drop start items.old.items) }
     ensures capacity { vec_capacity items.new ≡ vec_capacity items.old }
 {
@@ -79,7 +79,7 @@ pub fn reverse_from<T>(items: &mut Vec<T>, start: usize)
 // Reverses the items of `start..end`.
 fn reverse_between<T>(items: &mut Vec<T>, start: usize, end: usize)
     requires within { IsRangeWithin start end (length items.old.items) }
-    ensures items { items.new.items
+    ensures list { items.new.items
         ≡ take start items.old.items
         ++ reverse (slice_range items.old.items start end)
         ++ drop end items.old.items }

@@ -118,7 +118,7 @@ pub fn gather_items<T: Eq>(items: &mut [T], steps: &mut Steps) -> usize
     requires bounded { steps.old + cost (length items.old) ≤ u128.MAX }
     ensures count { result ≡ length (adds T.eq [] items.old) }
     ensures front { take result items.new ≡ adds T.eq [] items.old }
-    ensures items { IsPermutation items.old items.new }
+    ensures list { IsPermutation items.old items.new }
     ensures counted { steps.new ≡ steps.old + comparisons T.eq items.old }
 {
     let mut kept = 0;
@@ -155,7 +155,7 @@ pub fn gather_items<T: Eq>(items: &mut [T], steps: &mut Steps) -> usize
 /// ```
 pub fn dedup_keep_last_value<K: Eq + Drop, V: Drop>(pairs: &mut Vec<(K, V)>, steps: &mut Steps)
     requires bounded { steps.old + cost (length pairs.old.items) ≤ u128.MAX }
-    ensures pairs { pairs.new.items ≡ puts K.eq [] pairs.old.items }
+    ensures list { pairs.new.items ≡ puts K.eq [] pairs.old.items }
     ensures capacity { vec_capacity pairs.new ≡ vec_capacity pairs.old }
     ensures counted { steps.new ≡ steps.old + comparisons K.eq (keys_of pairs.old.items) }
 {
@@ -185,7 +185,7 @@ pub fn dedup_keep_last_value<K: Eq + Drop, V: Drop>(pairs: &mut Vec<(K, V)>, ste
 /// ```
 pub fn dedup_keep_first<T: Eq + Drop>(items: &mut Vec<T>, steps: &mut Steps)
     requires bounded { steps.old + cost (length items.old.items) ≤ u128.MAX }
-    ensures items { items.new.items ≡ adds T.eq [] items.old.items }
+    ensures list { items.new.items ≡ adds T.eq [] items.old.items }
     ensures capacity { vec_capacity items.new ≡ vec_capacity items.old }
     ensures counted { steps.new ≡ steps.old + comparisons T.eq items.old.items }
 {

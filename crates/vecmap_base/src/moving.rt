@@ -46,7 +46,7 @@ pub fn replace_and_move<T>(items: &mut Vec<T>, from: usize, to: usize, item: T) 
     requires from_within { from < length items.old.items }
     requires to_within { to < length items.old.items }
     ensures old { slice_get items.old.items from ≡ Some result }
-    ensures items { items.new.items ≡ insert (remove items.old.items from) to item }
+    ensures list { items.new.items ≡ insert (remove items.old.items from) to item }
     ensures capacity { vec_capacity items.new ≡ vec_capacity items.old }
 {
     let is_small = size_of_val(&item) <= MAX_BYTES_FOR_CARRYING;
@@ -82,7 +82,7 @@ pub fn replace_and_move<T>(items: &mut Vec<T>, from: usize, to: usize, item: T) 
 pub fn move_to<T>(items: &mut Vec<T>, from: usize, to: usize)
     requires from_within { from < length items.old.items }
     requires to_within { to < length items.old.items }
-    ensures items { items.new.items ≡ moved items.old.items from to }
+    ensures list { items.new.items ≡ moved items.old.items from to }
     ensures rearranged { IsPermutation items.old.items items.new.items }
     ensures capacity { vec_capacity items.new ≡ vec_capacity items.old }
 {
@@ -113,7 +113,7 @@ pub fn move_to<T>(items: &mut Vec<T>, from: usize, to: usize)
 pub fn remove_item<T>(items: &mut Vec<T>, index: usize) -> T
     requires within { index < length items.old.items }
     ensures item { slice_get items.old.items index ≡ Some result }
-    ensures items { items.new.items ≡ remove items.old.items index }
+    ensures list { items.new.items ≡ remove items.old.items index }
     ensures capacity { vec_capacity items.new ≡ vec_capacity items.old }
 {
     // If one item follows, it moves to the index of the removed item. If none follows, nothing moves.
@@ -148,7 +148,7 @@ pub fn remove_item<T>(items: &mut Vec<T>, index: usize) -> T
 pub fn insert_reserved<T>(items: &mut Vec<T>, index: usize, item: T)
     requires within { index ≤ length items.old.items }
     requires room { length items.old.items < vec_capacity items.old }
-    ensures items { items.new.items ≡ insert items.old.items index item }
+    ensures list { items.new.items ≡ insert items.old.items index item }
     ensures capacity { vec_capacity items.new ≡ vec_capacity items.old }
 {
     if size_of_val(&item) <= MAX_BYTES_FOR_CARRYING && items.len() - index <= MAX_CARRIED_RIGHT {
@@ -166,7 +166,7 @@ pub fn insert_reserved<T>(items: &mut Vec<T>, index: usize, item: T)
 fn remove_and_shift<T>(items: &mut Vec<T>, index: usize) -> T
     requires within { index < length items.old.items }
     ensures item { slice_get items.old.items index ≡ Some result }
-    ensures items { items.new.items ≡ remove items.old.items index }
+    ensures list { items.new.items ≡ remove items.old.items index }
     ensures capacity { vec_capacity items.new ≡ vec_capacity items.old }
 {
     if size_of_val(&items[index]) > MAX_BYTES_FOR_ROTATION {
@@ -184,7 +184,7 @@ fn move_by_parts<T>(items: &mut [T], from: usize) -> usize
     requires { from < length items.old }
     ensures within { result < length items.new }
     ensures item { slice_get items.new result ≡ slice_get items.old from }
-    ensures items { remove items.new result ≡ remove items.old from }
+    ensures list { remove items.new result ≡ remove items.old from }
 {
     let size = size_of_val(&items[from]);
     if size <= MAX_BYTES_FOR_ROTATION || MAX_BYTES_FOR_PARTS < size {
@@ -204,7 +204,7 @@ fn move_by_parts<T>(items: &mut [T], from: usize) -> usize
 fn carry_left<T>(items: &mut [T], from: usize, end: usize, item: T) -> T
     requires order { from ≤ end }
     requires within { end ≤ length items.old }
-    ensures items { insert items.new from result ≡ insert items.old end item }
+    ensures list { insert items.new from result ≡ insert items.old end item }
     ensures count { length items.new ≡ length items.old }
 {
     let mut carried = item;
@@ -219,7 +219,7 @@ fn carry_left<T>(items: &mut [T], from: usize, end: usize, item: T) -> T
 fn carry_right<T>(items: &mut [T], from: usize, end: usize, item: T) -> T
     requires order { from ≤ end }
     requires within { end ≤ length items.old }
-    ensures items { insert items.new end result ≡ insert items.old from item }
+    ensures list { insert items.new end result ≡ insert items.old from item }
     ensures count { length items.new ≡ length items.old }
 {
     let mut carried = item;
@@ -234,7 +234,7 @@ fn replace_and_rotate<T>(items: &mut Vec<T>, from: usize, to: usize, item: T) ->
     requires from_within { from < length items.old.items }
     requires to_within { to < length items.old.items }
     ensures old { slice_get items.old.items from ≡ Some result }
-    ensures items { items.new.items ≡ insert (remove items.old.items from) to item }
+    ensures list { items.new.items ≡ insert (remove items.old.items from) to item }
     ensures capacity { vec_capacity items.new ≡ vec_capacity items.old }
 {
     let old = replace(&mut items[from], item);

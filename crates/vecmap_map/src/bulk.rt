@@ -42,7 +42,7 @@ impl<K, V> VecMap<K, V> {
         V: Drop,
         requires ends { IsFiniteIterable I.into_iter_gives I.IntoIter.can_next I.IntoIter.remaining
             iter }
-        ensures entries { IfOk result (λ map. (it : I.IntoIter) × (pairs : List (K × V))
+        ensures list { IfOk result (λ map. (it : I.IntoIter) × (pairs : List (K × V))
             × I.into_iter_gives iter it × Drains I.IntoIter.next_gives it pairs
             × (map.entries ≡ puts K.eq [] pairs)) }
 
@@ -120,7 +120,7 @@ impl<K, V> VecMap<K, V> {
     where
         K: Eq + Drop,
         V: Drop,
-        ensures entries { OnOk result (self.new.entries
+        ensures list { OnOk result (self.new.entries
             ≡ puts K.eq self.old.entries other.old.entries) }
         ensures emptied { OnOk result (other.new ≡ with_entries other.old []) }
         ensures capacity { self.old.capacity ≤ self.new.capacity }
@@ -309,7 +309,7 @@ impl<K, V> VecMap<K, V> {
     where
         K: Eq + Clone,
         V: Clone,
-        ensures entries { OnOk result ((k : K) × (v : V) × K.is_clone key.now k
+        ensures list { OnOk result ((k : K) × (v : V) × K.is_clone key.now k
             × V.is_clone value.now v × (self.new.entries ≡ put K.eq self.old.entries k v)) }
         ensures capacity { KeepsRoomAt None self.old self.new }
         ensures succeeds { HasRoom self.old 1 → K.is_infallible key.now → V.is_infallible value.now

@@ -30,7 +30,7 @@ impl<K, V> VecMap<K, V> {
     where
         K: Clone,
         V: Clone,
-        ensures entries { IfOk result
+        ensures list { IfOk result
             (λ map. ArePairClones K.is_clone V.is_clone self.now.entries map.entries) }
         ensures same { ClonesAreSame K.is_clone → ClonesAreSame V.is_clone
             → IfOk result (λ map. map.entries ≡ self.now.entries) }

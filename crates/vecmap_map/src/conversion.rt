@@ -111,7 +111,7 @@ impl<K, V> VecMap<K, V> {
     where
         K: Eq,
         requires distinct { HasDistinctKeys K.eq pairs.items }
-        ensures entries { result.entries ≡ pairs.items }
+        ensures list { result.entries ≡ pairs.items }
         ensures capacity { result.capacity ≡ vec_capacity pairs }
     {
         VecMap { pairs }

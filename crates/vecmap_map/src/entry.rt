@@ -332,7 +332,7 @@ impl<'a, K, V> Entry<'a, K, V> {
         ensures key { entry_key result ≡ entry_key self.entry }
         ensures index { entry_index_of result ≡ entry_index_of self.entry }
         ensures update { ModifiesValue F.FnOnce f (entry_value self.entry) (entry_value result) }
-        ensures entries { (entry_map result).entries
+        ensures list { (entry_map result).entries
             ≡ option_map_or (entries_with self.entry) (entry_value result)
             (entry_map self.entry).entries }
         ensures capacity { (entry_map result).capacity ≡ (entry_map self.entry).capacity }

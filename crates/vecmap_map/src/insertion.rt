@@ -211,7 +211,7 @@ impl<K, V> VecMap<K, V> {
     where
         K: Eq,
         requires absent { lookup K.eq self.old.entries key ≡ None }
-        ensures entries { OnOk result (self.new.entries ≡ self.old.entries ++ (key, value) ∷ []) }
+        ensures list { OnOk result (self.new.entries ≡ self.old.entries ++ (key, value) ∷ []) }
         ensures insertion { OnOk result (AddsKey K.eq self.old.entries key value self.new.entries) }
         ensures capacity { KeepsRoomAt None self.old self.new }
 
@@ -299,7 +299,7 @@ impl<K, V> VecMap<K, V> {
 
     // Appends a pair.
     pub(crate) fn push(&mut self, key: K, value: V) -> Result<(), Refused<(K, V)>>
-        ensures entries { OnOk result (self.new.entries ≡ self.old.entries ++ (key, value) ∷ []) }
+        ensures list { OnOk result (self.new.entries ≡ self.old.entries ++ (key, value) ∷ []) }
         ensures capacity { KeepsRoomAt None self.old self.new }
         ensures given { IfErr result (λ refused. refused.given ≡ (key, value)) }
         ensures err { OnErr result (RefusesAt None self.old self.new) }
@@ -315,7 +315,7 @@ impl<K, V> VecMap<K, V> {
 
     // Reserves capacity for one more pair.
     fn reserve_one(&mut self) -> Result<(), AllocError>
-        ensures entries { self.new.entries ≡ self.old.entries }
+        ensures list { self.new.entries ≡ self.old.entries }
         ensures room { OnOk result (HasRoom self.new 1) }
         ensures capacity { self.old.capacity ≤ self.new.capacity }
         ensures unchanged { HasRoom self.old 1 → self.new ≡ self.old }
@@ -337,7 +337,7 @@ impl<K, V> VecMap<K, V> {
 // Reserves capacity for one more item.
 #[inline(never)]
 fn grown<T>(mut items: Vec<T>) -> (Vec<T>, Result<(), AllocError>)
-    ensures items { result.0.items ≡ items.items }
+    ensures list { result.0.items ≡ items.items }
     ensures room { OnOk result.1 (length result.0.items < vec_capacity result.0) }
     ensures capacity { vec_capacity items ≤ vec_capacity result.0 }
     ensures err { OnErr result.1 ((vec_capacity items ≤ length items.items)

@@ -17,7 +17,7 @@ impl<K, V> VecMap<K, V> {
     /// ```
     #[tactic(auto, using(vecmap_base::proofs::DistinctLemmas::Absent::distinct_none))]
     pub fn new(alloc: Global) -> VecMap<K, V>
-        ensures entries { result.entries ≡ [] }
+        ensures list { result.entries ≡ [] }
         ensures distinct { (eq : K → K → Bool) → HasDistinctKeys eq result.entries }
         ensures capacity { result.capacity ≡ 0 }
     {
@@ -47,7 +47,7 @@ impl<K, V> VecMap<K, V> {
     /// ```
     #[tactic(auto, using(vecmap_base::proofs::DistinctLemmas::Absent::distinct_none))]
     pub fn with_capacity(alloc: Global, capacity: usize) -> Result<VecMap<K, V>, AllocError>
-        ensures entries { IfOk result (λ map. map.entries ≡ []) }
+        ensures list { IfOk result (λ map. map.entries ≡ []) }
         ensures distinct { IfOk result (λ map. (eq : K → K → Bool)
             → HasDistinctKeys eq map.entries) }
         ensures at_least { IfOk result (λ map. capacity ≤ map.capacity) }
@@ -82,7 +82,7 @@ impl<K, V> VecMap<K, V> {
     /// map.into_vec().as_slice() // [('a', 1), ('b', 2)]
     /// ```
     pub fn into_vec(self) -> Vec<(K, V)>
-        ensures entries { result.items ≡ self.entries }
+        ensures list { result.items ≡ self.entries }
         ensures capacity { vec_capacity result ≡ self.capacity }
     {
         let VecMap { pairs } = self;

@@ -228,7 +228,7 @@ impl<K, V> MutableKeys for VecMap<K, V> {
 
     fn as_mut_slice(&mut self) -> &mut [(K, V)]
         ensures* writes_back { sem 𝓛 (lends_slice K.row V.row self.entry result) }
-        ensures pairs { result.now ≡ self.old.entries }
+        ensures list { result.now ≡ self.old.entries }
     {
         self.pairs.as_mut_slice()
     }

@@ -23,7 +23,7 @@ impl<K, V> VecMap<K, V> {
     where
         K: Drop,
         V: Drop,
-        ensures entries { self.new.entries ≡ [] }
+        ensures list { self.new.entries ≡ [] }
         ensures capacity { self.new.capacity ≡ self.old.capacity }
 
         // What follows for lookups, lengths and indices.

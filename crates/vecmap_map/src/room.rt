@@ -170,7 +170,7 @@ impl<K, V> VecMap<K, V> {
     /// 1 <= map.capacity() // true
     /// ```
     pub fn shrink_to_fit(&mut self)
-        ensures entries { self.new.entries ≡ self.old.entries }
+        ensures list { self.new.entries ≡ self.old.entries }
         ensures within_capacity { length self.old.entries ≤ self.new.capacity }
         ensures capacity { self.new.capacity ≤ self.old.capacity }
         ensures frees { self.old.entries ≡ [] → self.new.capacity ≡ 0 }
@@ -196,7 +196,7 @@ impl<K, V> VecMap<K, V> {
     /// 4 <= map.capacity() // true
     /// ```
     pub fn shrink_to(&mut self, min_capacity: usize)
-        ensures entries { self.new.entries ≡ self.old.entries }
+        ensures list { self.new.entries ≡ self.old.entries }
         ensures within_capacity { length self.old.entries ≤ self.new.capacity }
         ensures capacity { self.new.capacity ≤ self.old.capacity }
         ensures limit { min min_capacity self.old.capacity ≤ self.new.capacity }

@@ -40,7 +40,7 @@ impl<T: Eq> VecSet<T> {
         T: Drop,
         requires ends { IsFiniteIterable I.into_iter_gives I.IntoIter.can_next I.IntoIter.remaining
             iter }
-        ensures elements { IfOk result (λ set. (it : I.IntoIter) × (items : List T)
+        ensures list { IfOk result (λ set. (it : I.IntoIter) × (items : List T)
             × I.into_iter_gives iter it × Drains I.IntoIter.next_gives it items
             × (set.elements ≡ adds T.eq [] items)) }
         ensures runs { IfOk result (λ set. (it : I.IntoIter) × I.into_iter_gives iter it

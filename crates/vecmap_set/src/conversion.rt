@@ -105,7 +105,7 @@ impl<T: Eq> VecSet<T> {
     /// ```
     pub fn from_vec_unchecked(items: Vec<T>) -> VecSet<T>
         requires distinct { IsDistinct T.eq items.items }
-        ensures elements { result.elements ≡ items.items }
+        ensures list { result.elements ≡ items.items }
         ensures distinct { IsDistinct T.eq result.elements }
         ensures capacity { result.capacity ≡ vec_capacity items }
     {

@@ -141,7 +141,7 @@ impl<T: Eq> VecSet<T> {
     #[tactic(auto, using(crate::proofs::SetLemmas::distinct_changes, crate::proofs::IndexLemmas::stored_last))]
     pub fn insert_unique(&mut self, item: T) -> Result<(), Refused<T>>
         requires absent { is_member T.eq self.old.elements item ≡ false }
-        ensures elements { OnOk result (self.new.elements ≡ self.old.elements ++ item ∷ []) }
+        ensures list { OnOk result (self.new.elements ≡ self.old.elements ++ item ∷ []) }
         ensures insertion { OnOk result (AddsItem T.eq self.old.elements item self.new.elements) }
         ensures any { OnOk result ((f : T → Bool) → list_any f self.new.elements
             ≡ (f item || list_any f self.old.elements)) }

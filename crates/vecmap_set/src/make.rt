@@ -16,7 +16,7 @@ impl<T: Eq> VecSet<T> {
     /// ```
     #[tactic(auto, using(vecmap_base::proofs::DistinctLemmas::Absent::distinct_none))]
     pub fn new(alloc: Global) -> VecSet<T>
-        ensures elements { result.elements ≡ [] }
+        ensures list { result.elements ≡ [] }
         ensures distinct { IsDistinct T.eq result.elements }
         ensures capacity { result.capacity ≡ 0 }
     {
@@ -47,7 +47,7 @@ impl<T: Eq> VecSet<T> {
     /// ```
     #[tactic(auto, using(vecmap_base::proofs::DistinctLemmas::Absent::distinct_none))]
     pub fn with_capacity(alloc: Global, capacity: usize) -> Result<VecSet<T>, AllocError>
-        ensures elements { IfOk result (λ set. set.elements ≡ []) }
+        ensures list { IfOk result (λ set. set.elements ≡ []) }
         ensures distinct { IfOk result (λ set. IsDistinct T.eq set.elements) }
         ensures at_least { IfOk result (λ set. capacity ≤ set.capacity) }
         ensures capacity { capacity ≡ 0 → IfOk result (λ set. set.capacity ≡ 0) }
@@ -67,7 +67,7 @@ impl<T: Eq> VecSet<T> {
     /// set.as_slice() // [2, 1]
     /// ```
     pub fn as_slice(&self) -> &[T]
-        ensures elements { result.now ≡ self.now.elements }
+        ensures list { result.now ≡ self.now.elements }
         ensures distinct { IsDistinct T.eq result.now }
     {
         self.items.as_slice()
@@ -82,7 +82,7 @@ impl<T: Eq> VecSet<T> {
     /// set.into_vec().as_slice() // [2, 1]
     /// ```
     pub fn into_vec(self) -> Vec<T>
-        ensures elements { result.items ≡ self.elements }
+        ensures list { result.items ≡ self.elements }
         ensures distinct { IsDistinct T.eq result.items }
         ensures capacity { vec_capacity result ≡ self.capacity }
     {

@@ -23,7 +23,7 @@ impl<T: Eq> VecSet<T> {
     pub fn clear(&mut self)
     where
         T: Drop,
-        ensures elements { self.new.elements ≡ [] }
+        ensures list { self.new.elements ≡ [] }
         ensures distinct { IsDistinct T.eq self.new.elements }
         ensures capacity { self.new.capacity ≡ self.old.capacity }
     {

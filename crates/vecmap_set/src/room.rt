@@ -152,7 +152,7 @@ impl<T: Eq> VecSet<T> {
     /// 1 <= set.capacity() // true
     /// ```
     pub fn shrink_to_fit(&mut self)
-        ensures elements { self.new.elements ≡ self.old.elements }
+        ensures list { self.new.elements ≡ self.old.elements }
         ensures distinct { IsDistinct T.eq self.new.elements }
         ensures within_capacity { length self.old.elements ≤ self.new.capacity }
         ensures capacity { self.new.capacity ≤ self.old.capacity }
@@ -172,7 +172,7 @@ impl<T: Eq> VecSet<T> {
     /// 4 <= set.capacity() // true
     /// ```
     pub fn shrink_to(&mut self, min_capacity: usize)
-        ensures elements { self.new.elements ≡ self.old.elements }
+        ensures list { self.new.elements ≡ self.old.elements }
         ensures distinct { IsDistinct T.eq self.new.elements }
         ensures within_capacity { length self.old.elements ≤ self.new.capacity }
         ensures capacity { self.new.capacity ≤ self.old.capacity }

@@ -169,7 +169,7 @@ impl<'a, K, V> OccupiedEntry<'a, K, V> {
     where
         K: Drop,
         ensures pair { entry_pair (Occupied self.entry) ≡ Some result }
-        ensures entries { self.exit.0.now.entries ≡ entries_without (Occupied self.entry) }
+        ensures list { self.exit.0.now.entries ≡ entries_without (Occupied self.entry) }
         ensures capacity { self.exit.0.now.capacity ≡ (entry_map (Occupied self.entry)).capacity }
     {
         let index = self.index;
@@ -195,7 +195,7 @@ impl<'a, K, V> OccupiedEntry<'a, K, V> {
     where
         K: Drop,
         ensures pair { entry_pair (Occupied self.entry) ≡ Some result }
-        ensures entries { self.exit.0.now.entries ≡ entries_swap_without (Occupied self.entry) }
+        ensures list { self.exit.0.now.entries ≡ entries_swap_without (Occupied self.entry) }
         ensures capacity { self.exit.0.now.capacity ≡ (entry_map (Occupied self.entry)).capacity }
     {
         let index = self.index;
@@ -216,7 +216,7 @@ impl<'a, K, V> OccupiedEntry<'a, K, V> {
     where
         K: Drop,
         ensures value { entry_value (Occupied self.entry) ≡ Some result }
-        ensures entries { self.exit.0.now.entries ≡ entries_without (Occupied self.entry) }
+        ensures list { self.exit.0.now.entries ≡ entries_without (Occupied self.entry) }
         ensures capacity { self.exit.0.now.capacity ≡ (entry_map (Occupied self.entry)).capacity }
     {
         let (_key, value) = self.remove_entry();
@@ -237,7 +237,7 @@ impl<'a, K, V> OccupiedEntry<'a, K, V> {
     where
         K: Drop,
         ensures value { entry_value (Occupied self.entry) ≡ Some result }
-        ensures entries { self.exit.0.now.entries ≡ entries_swap_without (Occupied self.entry) }
+        ensures list { self.exit.0.now.entries ≡ entries_swap_without (Occupied self.entry) }
         ensures capacity { self.exit.0.now.capacity ≡ (entry_map (Occupied self.entry)).capacity }
     {
         let (_key, value) = self.swap_remove_entry();

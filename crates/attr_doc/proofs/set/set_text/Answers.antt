@@ -30,7 +30,7 @@ returns-else-is_err-2-clause-sections c =
     let l = c.args.sections.now.entries in
     let first : c.insert.new.self.entries ≡ put str_eq_ignore_ascii_case [] c.args.name c.args.text =
     (at_ok c.insert.result c.unwrap.result c.unwrap.ensures c.insert.ensures.insertion).entries
-    ∙ ap (λ f. put str_eq_ignore_ascii_case f c.args.name c.args.text) (c.reserve.ensures.reserved.entries ∙ c.new-texts.ensures.entries) in
+    ∙ ap (λ f. put str_eq_ignore_ascii_case f c.args.name c.args.text) (c.reserve.ensures.reserved.entries ∙ c.new-texts.ensures.list) in
     let last : c.insert-in-None.new.self.entries ≡ put str_eq_ignore_ascii_case l c.args.section c.insert.new.self =
     (at_ok c.insert-in-None.result c.unwrap-in-None.result c.unwrap-in-None.ensures c.insert-in-None.ensures.insertion).entries
     ∙ ap (λ f. put str_eq_ignore_ascii_case f c.args.section c.insert.new.self) c.reserve-else-is_err.ensures.reserved.entries in

@@ -15,7 +15,7 @@ pub(crate) fn put_if_new<K: Eq + Clone, V: Eq + Clone>(
     ensures index { IfOk result (λ kept. kept.0 ≡ index_or_length K.eq map.old.entries key) }
     ensures added { IfOk result (λ kept. kept.1
         ≡ not (is_some (index_of K.eq map.old.entries key))) }
-    ensures entries { OnOk result (map.new.entries
+    ensures list { OnOk result (map.new.entries
         ≡ put K.eq map.old.entries key (unwrap_or (lookup K.eq map.old.entries key) value)) }
     ensures capacity { KeepsRoom K.eq map.old key map.new }
     ensures err { OnErr result (Refuses K.eq map.old key map.new) }

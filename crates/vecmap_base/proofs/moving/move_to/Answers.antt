@@ -3,8 +3,8 @@ use Rattle.vecmap_base.proofs.MoveLemmas.{moved_is, moved_rearranged}
 use Rattle.vecmap_base.proofs.moving.move_to.Goals as goal
 
 -- The vector's items are the items of the slice that was borrowed.
-pub returns-clause-items : goal.returns-clause-items
-returns-clause-items g c =
+pub returns-clause-list : goal.returns-clause-list
+returns-clause-list g c =
     let from = c.args.from in
     let to = c.args.to in
     let long : length c.move_item.new.items ≡ c.args.items.now.len = omega (arith, c.move_item.auto.items, c.deref_mut.ensures.len, c.args.items.now.ok) in

@@ -3,8 +3,8 @@ use Rattle.std.proofs.lemmas.List.Edits.{length-remove}
 use Rattle.vecmap_base.proofs.MoveLemmas.{taken_last}
 use Rattle.vecmap_base.proofs.moving.remove_and_shift.Goals as goal
 
-pub returns-clause-items : goal.returns-clause-items
-returns-clause-items g c =
+pub returns-clause-list : goal.returns-clause-list
+returns-clause-list g c =
     let xs = c.args.items.now.items in
     let i = c.args.index in
     let long : length c.move_item.new.items ≡ c.args.items.now.len = omega (arith, c.move_item.auto.items, c.deref_mut.ensures.len, c.args.items.now.ok) in

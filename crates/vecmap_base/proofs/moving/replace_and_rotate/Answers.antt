@@ -2,8 +2,8 @@ use Rattle.std.proofs.Common.{◌≡◌, ap, arith, get_or, insert, length, remo
 use Rattle.vecmap_base.proofs.MoveLemmas.{replaced_and_moved}
 use Rattle.vecmap_base.proofs.moving.replace_and_rotate.Goals as goal
 
-pub returns-clause-items : goal.returns-clause-items
-returns-clause-items g c =
+pub returns-clause-list : goal.returns-clause-list
+returns-clause-list g c =
     let xs = c.args.items.now.items in
     let from = c.args.from in
     let to = c.args.to in

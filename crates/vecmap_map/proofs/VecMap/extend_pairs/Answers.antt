@@ -8,7 +8,7 @@ use Rattle.vecmap_map.proofs.VecMap.extend_pairs.Goals as goal
 
 pub loop-pair-preserved : goal.loop-pair-preserved
 loop-pair-preserved g c =
-    let one = c.in_ok-put_clones.ensures.entries in
+    let one = c.in_ok-put_clones.ensures.list in
     let puts = lent_clone_taken (IsPairClone g.K.Clone.is_clone g.V.Clone.is_clone) (λ done r. put g.K.PartialEq.eq done r.0 r.1) deref
     c.args.self.now.entries c.loop-pair.yielded c.loop-pair.self.entries c.put_clones.new.self.entries c.in-Some.pair
     (one.0, one.1) c.loop-pair.invariant.puts (one.2, one.3) one.4 in

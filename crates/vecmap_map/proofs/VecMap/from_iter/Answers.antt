@@ -2,15 +2,15 @@ use Rattle.std.proofs.{Common.{rules}, iter.runs.Consumers.total_runs}
 use Rattle.vecmap_base.{specs.Lookups.MakesPairs, proofs.PairsLemmas.Parts.makes_pairs}
 use Rattle.vecmap_map.proofs.VecMap.from_iter.Goals as goal
 
-pub returns-clause-entries : goal.returns-clause-entries
-returns-clause-entries g c = search rules
+pub returns-clause-list : goal.returns-clause-list
+returns-clause-list g c = search rules
 
 pub returns-clause-distinct : goal.returns-clause-distinct
 returns-clause-distinct g c =
-    let made = returns-clause-entries g c in
+    let made = returns-clause-list g c in
     (makes_pairs g.K.PartialEq.eq g.met.K.Eq.laws made.1 _ made.4).distinct
 
 pub returns-clause-runs : goal.returns-clause-runs
 returns-clause-runs g c =
-    let made = returns-clause-entries g c in
+    let made = returns-clause-list g c in
     (made.0, made.2, total_runs _ made.0 (Unit {0}) (λ pairs. MakesPairs g.K.PartialEq.eq pairs _) (made.1, (λ _. made.3), makes_pairs g.K.PartialEq.eq g.met.K.Eq.laws made.1 _ made.4) tt)

@@ -8,7 +8,7 @@ loop-pair-preserved g c =
     let pairs = c.args.pairs.now in
     let i = c.loop-pair.pair-index in
     let p = c.pair-item.result in
-    let one = c.in_ok-put_clones.ensures.entries in
+    let one = c.in_ok-put_clones.ensures.list in
     let is_clone = IsPairClone g.K.Clone.is_clone g.V.Clone.is_clone in
     let more : take i pairs ++ p ∷ [] ≡ take (i + 1) pairs = ap (λ q. take i pairs ++ q ∷ []) c.pair-item.is ∙ sym (take_more pairs i p c.loop-pair-test.true) in
     record {

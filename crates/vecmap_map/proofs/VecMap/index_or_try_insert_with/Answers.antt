@@ -16,7 +16,7 @@ returns-in-Ok-clause-index g c =
     let test = g.Q.Equivalent.equivalent c.args.query in
     let l = c.args.self.now.entries in
     let none : index_by test l ≡ None = sym c.get_index_of.ensures.index ∙ c.in_default.is in
-    index_by_appended test l c.push.new.self.entries (c.in_ok-key.key, c.in_ok-key.value) c.in-Ok.ensures.entries none (c.requires.made _ c.in_ok-key.ensures)
+    index_by_appended test l c.push.new.self.entries (c.in_ok-key.key, c.in_ok-key.value) c.in-Ok.ensures.list none (c.requires.made _ c.in_ok-key.ensures)
     ∙ ap (λ n. Some n) (sym c.len-index.ensures.count)
 
 pub returns-in-Ok-clause-found : goal.returns-in-Ok-clause-found
@@ -24,7 +24,7 @@ returns-in-Ok-clause-found g c =
     let test = g.Q.Equivalent.equivalent c.args.query in
     let none : index_by test c.args.self.now.entries ≡ None = sym c.get_index_of.ensures.index ∙ c.in_default.is in
     appends_made g.K.PartialEq.eq g.met.K.Eq.laws test (g.met.Q.Equivalent.respects_eq c.args.query) _ c.args.self.now c.push.new.self (c.in_ok-key.key, c.in_ok-key.value) c.len-index.result none
-    (c.requires.made _ c.in_ok-key.ensures) c.in_ok-key.ensures c.in-Ok.ensures.entries (returns-in-Ok-clause-index g c)
+    (c.requires.made _ c.in_ok-key.ensures) c.in_ok-key.ensures c.in-Ok.ensures.list (returns-in-Ok-clause-index g c)
 
 pub returns-in-Err-clause-err : goal.returns-in-Err-clause-err
 returns-in-Err-clause-err g c =

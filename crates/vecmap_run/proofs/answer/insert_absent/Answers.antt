@@ -9,4 +9,4 @@ returns-in-Ok-clause-ok c =
     let l = c.args.map.now.entries in
     let key = c.in_ok-key.key in
     let absent : lookup string_eq l key ≡ None = subst (λ text. lookup_by (has_text text) l ≡ None) (sym c.in_ok-key.ensures.ok) c.requires.absent in
-    (key, c.in_ok-key.ensures.ok, absent, (simp to_z-of_z at c.in-Ok.ensures.entries) ∙ sym (put_absent string_eq l key c.args.value (index_by_none (string_eq key) l absent)))
+    (key, c.in_ok-key.ensures.ok, absent, (simp to_z-of_z at c.in-Ok.ensures.list) ∙ sym (put_absent string_eq l key c.args.value (index_by_none (string_eq key) l absent)))

@@ -24,7 +24,7 @@ pub returns-in-Ok-clause-found : goal.returns-in-Ok-clause-found
 returns-in-Ok-clause-found g c =
     let test = g.Q.Equivalent.equivalent c.args.query in
     finds_at test _ c.len-index.result
-    (ap (position test) c.in-Ok.ensures.elements
+    (ap (position test) c.in-Ok.ensures.list
     ∙ position_appended test c.args.self.now.elements c.in_ok-item.item (search rules) (c.requires.made _ c.in_ok-item.ensures) ∙ ap (λ n. Some n) (sym c.len-index.ensures.count))
 
 pub returns-in-Ok-clause-insertion : goal.returns-in-Ok-clause-insertion
@@ -34,4 +34,4 @@ returns-in-Ok-clause-insertion g c =
     let x = c.in_ok-item.item in
     let none : position test s ≡ None = search rules in
     let absent : list_any test s ≡ false = list_any_position test s ∙ ap is_some none in
-    adds_item_by g.T.PartialEq.eq g.met.T.Eq.laws s _ x test (g.met.Q.Equivalent.respects_eq c.args.query) (c.requires.made _ c.in_ok-item.ensures) (c.in-Ok.ensures.elements ∙ sym (ap (λ b. if b then s else s ++ x ∷ []) absent))
+    adds_item_by g.T.PartialEq.eq g.met.T.Eq.laws s _ x test (g.met.Q.Equivalent.respects_eq c.args.query) (c.requires.made _ c.in_ok-item.ensures) (c.in-Ok.ensures.list ∙ sym (ap (λ b. if b then s else s ++ x ∷ []) absent))

@@ -15,5 +15,5 @@ returns-clause-found g c =
     let eq = g.T.PartialEq.eq in
     let s = c.args.self.now.elements in
     let none : item_index eq s c.args.item ≡ None = search rules in
-    finds_at (eq c.args.item) _ c.len-len.result (ap (λ l. item_index eq l c.args.item) c.in_ok-insert_unique.ensures.elements
+    finds_at (eq c.args.item) _ c.len-len.result (ap (λ l. item_index eq l c.args.item) c.in_ok-insert_unique.ensures.list
     ∙ position_appended (eq c.args.item) s c.args.item none (g.met.T.Eq.laws.refl c.args.item) ∙ ap (λ n. Some n) (sym c.len-len.ensures.count))

@@ -14,8 +14,8 @@ returns-in-Occupied-clause-update g c =
     = record { lent = c.get_mut.result; result = c.f.result; left = _; before = refl; met = c.f.ensures; after = refl } in
     subst (λ (p : _ × _). ModifiesValue g.F.FnOnce c.args.f p.0 p.1) (λ j. (sym old j, sym new j)) did
 
-pub returns-in-Occupied-clause-entries : goal.returns-in-Occupied-clause-entries
-returns-in-Occupied-clause-entries g c =
+pub returns-in-Occupied-clause-list : goal.returns-in-Occupied-clause-list
+returns-in-Occupied-clause-list g c =
     let v = c.f.new.arg2 in
     let o = c.in-Occupied.entry in
     sym (ap (λ w. option_map_or (entries_with c.args.self) w (entry_map c.args.self).entries) (value_at_written o.map.now.entries o.index o.within v) ∙ ap (λ e. entries_with e v) c.in-Occupied.is)

@@ -18,4 +18,4 @@ returns-clause-runs_back g c = drains_in_reverse drain_rest DrainKeeps
 pub invariant_of-set : goal.invariant_of-set
 invariant_of-set g c =
     let moved = drained_rearranged c.set.inside.items.items c.args.start c.args.end c.requires.within.0 in
-    rw c.move_range_last-keep.ensures.items (distinct_rearranged _ g.met.T.Eq.laws _ _ moved c.set.invariant)
+    rw c.move_range_last-keep.ensures.list (distinct_rearranged _ g.met.T.Eq.laws _ _ moved c.set.invariant)

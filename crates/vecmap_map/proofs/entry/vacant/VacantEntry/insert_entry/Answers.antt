@@ -6,7 +6,7 @@ pub returns-in-Ok-push : goal.returns-in-Ok-push
 returns-in-Ok-push g c = (
   (refl, (λ w. refl), tt),
   record {
-    inserted = vacant_inserted g.K.Clone.is_clone c.args.self c.args.value _ c.in-Ok.stored c.in-Ok.ensures.cases refl refl c.len-index.ensures.count c.in-Ok-push.ensures.entries c.in-Ok-push.ensures.capacity;
+    inserted = vacant_inserted g.K.Clone.is_clone c.args.self c.args.value _ c.in-Ok.stored c.in-Ok.ensures.cases refl refl c.len-index.ensures.count c.in-Ok-push.ensures.list c.in-Ok-push.ensures.capacity;
     err = tt;
     given = tt;
     full = λ _. tt;

@@ -7,7 +7,7 @@ pub returns-in-Ok : goal.returns-in-Ok
 returns-in-Ok g c =
     let l = c.args.self.map.now.entries in
     let pair : g.row.K.Denot × g.row.V.Denot = (c.args.self.key, c.args.value) in
-    let put = c.in-Ok.ensures.entries in
+    let put = c.in-Ok.ensures.list in
     let room = c.in-Ok.ensures.capacity in
     let end = c.len-last.ensures.count in (
       (refl, λ v _. ((λ j. with_value (put j) (end j) v) ∙ with_value_last l pair v, record { capacity = room.capacity; present = room.present; spare = room.spare }), tt),
