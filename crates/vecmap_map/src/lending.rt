@@ -62,7 +62,7 @@ impl<K, V> VecMap<K, V> {
     /// ```
     pub fn first_mut(&mut self) -> Option<(&K, &mut V)>
         ensures* writes_back { sem 𝓛 (lends_beside_key K.row V.row self.entry 0 result) }
-        ensures pair { option_map deref_pair_mut result ≡ slice_get self.old.entries 0 }
+        ensures item { option_map deref_pair_mut result ≡ slice_get self.old.entries 0 }
         ensures found { IsSome result ↔ (0 < length self.old.entries) }
     {
         self.get_index_mut(0)
@@ -85,7 +85,7 @@ impl<K, V> VecMap<K, V> {
     pub fn last_mut(&mut self) -> Option<(&K, &mut V)>
         ensures* writes_back { sem 𝓛 (lends_beside_key K.row V.row self.entry
             (length self.old.entries - 1) result) }
-        ensures pair { option_map deref_pair_mut result
+        ensures item { option_map deref_pair_mut result
             ≡ slice_get self.old.entries (length self.old.entries - 1) }
         ensures found { IsSome result ↔ (0 < length self.old.entries) }
     {
@@ -116,7 +116,7 @@ impl<K, V> VecMap<K, V> {
         ensures index { option_map (λ found. found.0) result
             ≡ index_by (Q.equivalent query) self.old.entries }
         ensures within { IfSome result (λ found. found.0 < length self.old.entries) }
-        ensures pair { option_map (λ found. (found.1.now, found.2.now)) result
+        ensures item { option_map (λ found. (found.1.now, found.2.now)) result
             ≡ lookup_pair_by (Q.equivalent query) self.old.entries }
     {
         let (place, map) = self.index_and_map(query);
@@ -142,7 +142,7 @@ impl<K, V> VecMap<K, V> {
     /// ```
     pub fn get_index_mut(&mut self, index: usize) -> Option<(&K, &mut V)>
         ensures* writes_back { sem 𝓛 (lends_beside_key K.row V.row self.entry index result) }
-        ensures pair { option_map deref_pair_mut result ≡ slice_get self.old.entries index }
+        ensures item { option_map deref_pair_mut result ≡ slice_get self.old.entries index }
         ensures found { IsSome result ↔ (index < length self.old.entries) }
     {
         match self.pair_at_mut(index) {
@@ -199,7 +199,7 @@ impl<K, V> VecMap<K, V> {
     pub fn pair_mut(&mut self, index: usize) -> (&K, &mut V)
         requires within { index < length self.old.entries }
         ensures* writes_back { sem 𝓛 (lends_value_at K.row V.row self.entry index result.1) }
-        ensures pair { slice_get self.old.entries index ≡ Some (result.0.now, result.1.now) }
+        ensures item { slice_get self.old.entries index ≡ Some (result.0.now, result.1.now) }
 
         // What follows for lookups, lengths and indices.
         ensures updates { (v : V) → UpdatesAt index self.old.entries
@@ -265,7 +265,7 @@ impl<K, V> VecMap<K, V> {
     fn parts_at(&mut self, index: usize) -> (&K, &mut V)
         requires { index < length self.old.entries }
         ensures* writes_back { sem 𝓛 (lends_value_at K.row V.row self.entry index result.1) }
-        ensures pair { slice_get self.old.entries index ≡ Some (result.0.now, result.1.now) }
+        ensures item { slice_get self.old.entries index ≡ Some (result.0.now, result.1.now) }
     {
         let pair = &mut self.pairs[index];
         (&pair.0, &mut pair.1)
@@ -283,7 +283,7 @@ impl<K, V> VecMap<K, V> {
     // Returns a mutable reference to the pair at `index`, if there is one.
     pub(crate) fn pair_at_mut(&mut self, index: usize) -> Option<&mut (K, V)>
         ensures* writes_back { sem 𝓛 (lends_pair_if_at K.row V.row self.entry index result) }
-        ensures pair { option_copied_mut result ≡ slice_get self.old.entries index }
+        ensures item { option_copied_mut result ≡ slice_get self.old.entries index }
         ensures found { IsSome result ↔ (index < length self.old.entries) }
     {
         if index < self.len() {
@@ -297,7 +297,7 @@ impl<K, V> VecMap<K, V> {
     pub(crate) fn whole_pair_mut(&mut self, index: usize) -> &mut (K, V)
         requires { index < length self.old.entries }
         ensures* writes_back { sem 𝓛 (lends_pair_at K.row V.row self.entry index result) }
-        ensures pair { slice_get self.old.entries index ≡ Some result.now }
+        ensures item { slice_get self.old.entries index ≡ Some result.now }
     {
         &mut self.pairs[index]
     }
@@ -307,7 +307,7 @@ impl<K, V> VecMap<K, V> {
         requires { index < length self.old.entries }
         ensures* writes_back { sem 𝓛 (lends_value_at K.row V.row self.entry index result.2) }
         ensures index { result.0 ≡ index }
-        ensures pair { slice_get self.old.entries index ≡ Some (result.1.now, result.2.now) }
+        ensures item { slice_get self.old.entries index ≡ Some (result.1.now, result.2.now) }
     {
         let pair = &mut self.pairs[index];
         (index, &pair.0, &mut pair.1)

@@ -36,7 +36,7 @@ impl<K, V> VecMap<K, V> {
     /// map.first() // Some((&'a', &1))
     /// ```
     pub fn first(&self) -> Option<(&K, &V)>
-        ensures pair { option_map deref_pair result ≡ slice_get self.now.entries 0 }
+        ensures item { option_map deref_pair result ≡ slice_get self.now.entries 0 }
 
         // What follows for lookups, lengths and indices.
         ensures at { IfSome result (λ pair. IsFoundAt 0 self.now.entries pair.0.now pair.1.now) }
@@ -53,7 +53,7 @@ impl<K, V> VecMap<K, V> {
     /// map.last() // Some((&'b', &2))
     /// ```
     pub fn last(&self) -> Option<(&K, &V)>
-        ensures pair { option_map deref_pair result
+        ensures item { option_map deref_pair result
             ≡ slice_get self.now.entries (length self.now.entries - 1) }
 
         // What follows for lookups, lengths and indices.
@@ -100,7 +100,7 @@ impl<K, V> VecMap<K, V> {
     /// map.get_index(2) // None
     /// ```
     pub fn get_index(&self, index: usize) -> Option<(&K, &V)>
-        ensures pair { option_map deref_pair result ≡ slice_get self.now.entries index }
+        ensures item { option_map deref_pair result ≡ slice_get self.now.entries index }
 
         // What follows for lookups, lengths and indices.
         ensures found { is_some result ≡ nat_lt index (length self.now.entries) }
@@ -128,7 +128,7 @@ impl<K, V> VecMap<K, V> {
             ≡ index_by (Q.equivalent query) self.now.entries }
         ensures within { IfSome result (λ found. found.0 < length self.now.entries) }
         ensures countable { IfSome result (λ found. found.0 < 2 ^ 63) }
-        ensures pair { option_map (λ found. (found.1.now, found.2.now)) result
+        ensures item { option_map (λ found. (found.1.now, found.2.now)) result
             ≡ lookup_pair_by (Q.equivalent query) self.now.entries }
 
         // What follows for lookups, lengths and indices.
@@ -154,7 +154,7 @@ impl<K, V> VecMap<K, V> {
     pub fn get_key_value<Q: Equivalent<K>>(&self, query: Q) -> Option<(&K, &V)>
     where
         K: Eq,
-        ensures pair { option_map deref_pair result
+        ensures item { option_map deref_pair result
             ≡ lookup_pair_by (Q.equivalent query) self.now.entries }
 
         // What follows for lookups, lengths and indices.

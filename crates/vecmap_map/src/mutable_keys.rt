@@ -167,7 +167,7 @@ impl<K, V> MutableKeys for VecMap<K, V> {
         ensures index { option_map (λ found. found.0) result
             ≡ index_by (Q.equivalent query) self.old.entries }
         ensures within { IfSome result (λ found. found.0 < length self.old.entries) }
-        ensures pair { option_map (λ found. (found.1.now, found.2.now)) result
+        ensures item { option_map (λ found. (found.1.now, found.2.now)) result
             ≡ lookup_pair_by (Q.equivalent query) self.old.entries }
     {
         let (place, map) = self.index_and_map(query);
@@ -182,7 +182,7 @@ impl<K, V> MutableKeys for VecMap<K, V> {
 
     fn get_index_mut2(&mut self, index: usize) -> Option<(&mut K, &mut V)>
         ensures* writes_back { sem 𝓛 (lends_both_at K.row V.row self.entry index result) }
-        ensures pair { option_map (λ pair. (pair.0.now, pair.1.now)) result
+        ensures item { option_map (λ pair. (pair.0.now, pair.1.now)) result
             ≡ slice_get self.old.entries index }
         ensures found { IsSome result ↔ (index < length self.old.entries) }
     {

@@ -202,7 +202,7 @@ impl<K, V> VecMap<K, V> {
     pub fn remove_entry<Q: Equivalent<K>>(&mut self, query: Q) -> Option<(K, V)>
     where
         K: Eq,
-        ensures pair { FindsPair (Q.equivalent query) self.old.entries result }
+        ensures item { FindsPair (Q.equivalent query) self.old.entries result }
         ensures removal { RemovesBy K.eq without_by (Q.equivalent query) self.old.entries
             self.new.entries }
         ensures indices { IfSome (index_by (Q.equivalent query) self.old.entries)
@@ -289,7 +289,7 @@ impl<K, V> VecMap<K, V> {
     pub fn swap_remove_entry<Q: Equivalent<K>>(&mut self, query: Q) -> Option<(K, V)>
     where
         K: Eq,
-        ensures pair { FindsPair (Q.equivalent query) self.old.entries result }
+        ensures item { FindsPair (Q.equivalent query) self.old.entries result }
         ensures removal { RemovesBy K.eq swap_without_by (Q.equivalent query) self.old.entries
             self.new.entries }
         ensures capacity { self.new.capacity ≡ self.old.capacity }

@@ -35,7 +35,7 @@ impl<T: Eq> VecSet<T> {
     /// ```
     #[tactic(auto, using(vecmap_base::proofs::ItemsLemmas::Stored::present_by_reference, crate::proofs::IndexLemmas::index_by_reference, crate::proofs::IndexLemmas::found_by_reference))]
     pub fn first(&self) -> Option<&T>
-        ensures element { option_copied result ≡ slice_get self.now.elements 0 }
+        ensures item { option_copied result ≡ slice_get self.now.elements 0 }
         ensures present { IfSome result (λ element. IsTrue (is_member T.eq self.now.elements
             element.now)) }
         ensures indexed { IfSome result (λ element. item_index T.eq self.now.elements
@@ -55,7 +55,7 @@ impl<T: Eq> VecSet<T> {
     /// ```
     #[tactic(auto, using(vecmap_base::proofs::ItemsLemmas::Stored::present_by_reference))]
     pub fn last(&self) -> Option<&T>
-        ensures element { option_copied result
+        ensures item { option_copied result
             ≡ slice_get self.now.elements (length self.now.elements - 1) }
         ensures present { IfSome result (λ element. IsTrue (is_member T.eq self.now.elements
             element.now)) }
@@ -94,7 +94,7 @@ impl<T: Eq> VecSet<T> {
     /// ```
     #[tactic(auto, using(vecmap_base::proofs::ItemsLemmas::Stored::present_by_reference, crate::proofs::IndexLemmas::index_by_reference, crate::proofs::IndexLemmas::found_by_reference))]
     pub fn get_index(&self, index: usize) -> Option<&T>
-        ensures element { option_copied result ≡ slice_get self.now.elements index }
+        ensures item { option_copied result ≡ slice_get self.now.elements index }
         ensures present { IfSome result (λ element. IsTrue (is_member T.eq self.now.elements
             element.now)) }
         ensures indexed { IfSome result (λ element. item_index T.eq self.now.elements
@@ -118,7 +118,7 @@ impl<T: Eq> VecSet<T> {
             ≡ position (Q.equivalent query) self.now.elements }
         ensures within { IfSome result (λ found. found.0 < length self.now.elements) }
         ensures countable { IfSome result (λ found. found.0 < 2 ^ 63) }
-        ensures element { option_map (λ found. found.1.now) result
+        ensures item { option_map (λ found. found.1.now) result
             ≡ stored_first (Q.equivalent query) self.now.elements }
         ensures found { is_some result ≡ list_any (Q.equivalent query) self.now.elements }
         ensures at { IfSome result (λ found.

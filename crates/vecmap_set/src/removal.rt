@@ -270,7 +270,7 @@ impl<T: Eq> VecSet<T> {
     /// set.as_slice() // [2, 3]
     /// ```
     pub fn take<Q: Equivalent<T>>(&mut self, query: Q) -> Option<T>
-        ensures element { FindsItem (Q.equivalent query) self.old.elements result }
+        ensures item { FindsItem (Q.equivalent query) self.old.elements result }
         ensures removal { RemovesItemBy T.eq without_first (Q.equivalent query)
             self.old.elements self.new.elements }
         ensures any { IfSome result (λ x. Takes x self.old.elements self.new.elements) }
@@ -291,7 +291,7 @@ impl<T: Eq> VecSet<T> {
     /// set.as_slice() // [3, 2]
     /// ```
     pub fn swap_take<Q: Equivalent<T>>(&mut self, query: Q) -> Option<T>
-        ensures element { FindsItem (Q.equivalent query) self.old.elements result }
+        ensures item { FindsItem (Q.equivalent query) self.old.elements result }
         ensures removal { RemovesItemBy T.eq swap_without_first (Q.equivalent query)
             self.old.elements self.new.elements }
         ensures any { IfSome result (λ x. Takes x self.old.elements self.new.elements) }

@@ -168,7 +168,7 @@ impl<'a, K, V> OccupiedEntry<'a, K, V> {
     pub fn remove_entry(self) -> (K, V)
     where
         K: Drop,
-        ensures pair { entry_pair (Occupied self.entry) ≡ Some result }
+        ensures item { entry_pair (Occupied self.entry) ≡ Some result }
         ensures list { self.exit.0.now.entries ≡ entries_without (Occupied self.entry) }
         ensures capacity { self.exit.0.now.capacity ≡ (entry_map (Occupied self.entry)).capacity }
     {
@@ -194,7 +194,7 @@ impl<'a, K, V> OccupiedEntry<'a, K, V> {
     pub fn swap_remove_entry(self) -> (K, V)
     where
         K: Drop,
-        ensures pair { entry_pair (Occupied self.entry) ≡ Some result }
+        ensures item { entry_pair (Occupied self.entry) ≡ Some result }
         ensures list { self.exit.0.now.entries ≡ entries_swap_without (Occupied self.entry) }
         ensures capacity { self.exit.0.now.capacity ≡ (entry_map (Occupied self.entry)).capacity }
     {

@@ -2,8 +2,8 @@ use Rattle.std.proofs.{Common.{arith, ap, slice_get, sym, Some, ◌∙◌, ◌�
 use Rattle.vecmap_base.proofs.PairsLemmas.ByIndex.{pair_found, pair_read}
 use Rattle.vecmap_map.proofs.VecMap.get_full.Goals as goal
 
-pub returns-clause-pair : goal.returns-clause-pair
-returns-clause-pair g c = grind (arith, pair_found (g.Q.Equivalent.equivalent c.args.query) c.args.self.now.entries c.in_ok-index.index c.index-pair.result.now)
+pub returns-clause-item : goal.returns-clause-item
+returns-clause-item g c = grind (arith, pair_found (g.Q.Equivalent.equivalent c.args.query) c.args.self.now.entries c.in_ok-index.index c.index-pair.result.now)
 
 pub returns-clause-at : goal.returns-clause-at
 returns-clause-at g c =

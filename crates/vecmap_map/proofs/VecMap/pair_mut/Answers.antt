@@ -7,7 +7,7 @@ returns g c = (
   (refl, λ w. refl),
   record {
     writes_back = tt;
-    pair = search rules;
+    item = search rules;
     updates = updates_at c.args.self.now.entries c.args.index;
   },
 )
