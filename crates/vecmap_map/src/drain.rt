@@ -60,7 +60,7 @@ impl<K, V> VecMap<K, V> {
         ensures front { end_index (R.end_bound range) (length self.old.entries) ≡ length self.old.entries
             → KeepsFront (start_index (R.start_bound range)) self.old.entries (drain_kept result) }
         ensures capacity { drain_capacity result ≡ self.old.capacity }
-        ensures same_map { drain_lender result ≡ self.entry.ghost_name }
+        ensures lender { drain_lender result ≡ self.entry.ghost_name }
         ensures keeps { KeepsAlong DrainNext DrainKeeps result }
         ensures keeps_back { KeepsAlong DrainNextBack DrainKeeps result }
     {
@@ -132,7 +132,7 @@ impl<'a, K: Drop, V: Drop> Drain<'a, K, V> {
         // Once the drain is dropped, after any number of calls, the map has the other pairs and its old capacity.
         ensures kept { drain_kept result ≡ remove_range map.old.entries start end }
         ensures capacity { drain_capacity result ≡ map.old.capacity }
-        ensures same_map { drain_lender result ≡ map.entry.ghost_name }
+        ensures lender { drain_lender result ≡ map.entry.ghost_name }
         ensures keeps { KeepsAlong DrainNext DrainKeeps result }
         ensures keeps_back { KeepsAlong DrainNextBack DrainKeeps result }
     {

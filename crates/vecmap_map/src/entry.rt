@@ -55,7 +55,7 @@ impl<K, V> VecMap<K, V> {
     pub fn entry(&mut self, key: K) -> Entry<'_, K, V>
     where
         K: Eq,
-        ensures same_map { (entry_ref result).ghost_name ≡ self.entry.ghost_name }
+        ensures lender { (entry_ref result).ghost_name ≡ self.entry.ghost_name }
         ensures unchanged { entry_map result ≡ self.old }
         ensures key { entry_key result ≡ key }
         ensures index { entry_index_of result ≡ index_of K.eq self.old.entries key }
@@ -328,7 +328,7 @@ impl<'a, K, V> Entry<'a, K, V> {
     where
         F: Drop,
         requires { (p : MutBor V) → entry_value self ≡ Some p.now → F.pre f p }
-        ensures same_map { (entry_ref result).ghost_name ≡ (entry_ref self.entry).ghost_name }
+        ensures lender { (entry_ref result).ghost_name ≡ (entry_ref self.entry).ghost_name }
         ensures key { entry_key result ≡ entry_key self.entry }
         ensures index { entry_index_of result ≡ entry_index_of self.entry }
         ensures update { ModifiesValue F.FnOnce f (entry_value self.entry) (entry_value result) }
@@ -405,7 +405,7 @@ impl<'a, K, V> Entry<'a, K, V> {
     pub fn over(map: &'a mut VecMap<K, V>, key: K) -> Entry<'a, K, V>
     where
         K: Eq,
-        ensures same_map { (entry_ref result).ghost_name ≡ map.entry.ghost_name }
+        ensures lender { (entry_ref result).ghost_name ≡ map.entry.ghost_name }
         ensures unchanged { entry_map result ≡ map.old }
         ensures key { entry_key result ≡ key }
         ensures index { entry_index_of result ≡ index_of K.eq map.old.entries key }
@@ -418,7 +418,7 @@ impl<'a, K, V> Entry<'a, K, V> {
     #[inline]
     pub(crate) fn at(map: &'a mut VecMap<K, V>, key: K, found: Option<usize>) -> Entry<'a, K, V>
         requires within { IfSome found (λ i. i < length map.old.entries) }
-        ensures same_map { (entry_ref result).ghost_name ≡ map.entry.ghost_name }
+        ensures lender { (entry_ref result).ghost_name ≡ map.entry.ghost_name }
         ensures unchanged { entry_map result ≡ map.old }
         ensures key { entry_key result ≡ key }
         ensures index { entry_index_of result ≡ found }

@@ -322,7 +322,7 @@ impl<K, V> VecMap<K, V> {
         K: Eq,
         ensures index { result.0 ≡ index_by (Q.equivalent query) self.old.entries }
         ensures within { IfSome result.0 (λ i. i < length self.old.entries) }
-        ensures same_map { result.1.ghost_name ≡ self.entry.ghost_name }
+        ensures lender { result.1.ghost_name ≡ self.entry.ghost_name }
         ensures unchanged { result.1.now ≡ self.old }
     {
         (self.get_index_of(query), self)
@@ -331,7 +331,7 @@ impl<K, V> VecMap<K, V> {
     // Returns the last index, or 0 if the map is empty, and the map itself.
     fn last_index_and_map(&mut self) -> (usize, &mut VecMap<K, V>)
         ensures index { result.0 ≡ length self.old.entries - 1 }
-        ensures same_map { result.1.ghost_name ≡ self.entry.ghost_name }
+        ensures lender { result.1.ghost_name ≡ self.entry.ghost_name }
         ensures unchanged { result.1.now ≡ self.old }
     {
         (self.len().saturating_sub(1), self)

@@ -60,7 +60,7 @@ impl<T: Eq> VecSet<T> {
             ≡ length self.old.elements → KeepsFrontItems (start_index (R.start_bound range))
             self.old.elements (drain_kept result) }
         ensures capacity { drain_capacity result ≡ self.old.capacity }
-        ensures same_set { drain_lender result ≡ self.entry.ghost_name }
+        ensures lender { drain_lender result ≡ self.entry.ghost_name }
         ensures keeps { KeepsAlong DrainNext DrainKeeps result }
         ensures keeps_back { KeepsAlong DrainNextBack DrainKeeps result }
     {
@@ -125,7 +125,7 @@ impl<'a, T: Eq + Drop> Drain<'a, T> {
         ensures runs_back { YieldsInReverse (DrainNextBack {T = T}) drain_rest }
         ensures kept { drain_kept result ≡ remove_range set.old.elements start end }
         ensures capacity { drain_capacity result ≡ set.old.capacity }
-        ensures same_set { drain_lender result ≡ set.entry.ghost_name }
+        ensures lender { drain_lender result ≡ set.entry.ghost_name }
         ensures keeps { KeepsAlong DrainNext DrainKeeps result }
         ensures keeps_back { KeepsAlong DrainNextBack DrainKeeps result }
     {

@@ -25,7 +25,7 @@ pub struct IterMutOf<'a, X, T, P> {
 
 impl<'a, X, T, P: PartMut<'a, X, T>> IterMutOf<'a, X, T, P> {
     pub(super) fn over_items(items: &'a mut [X]) -> IterMutOf<'a, X, T, P>
-        ensures same_slice { name_of result ≡ items.entry.ghost_name }
+        ensures lender { name_of result ≡ items.entry.ghost_name }
         ensures rest { ShowsAllOf P.shows (rest_of P.part) (map P.part items.old) result }
     {
         IterMutOf {

@@ -64,7 +64,7 @@ impl<'a, K, V> KeysMut<'a, K, V> {
     /// pairs[0] // ('c', 1)
     /// ```
     pub fn over(pairs: &'a mut [(K, V)]) -> KeysMut<'a, K, V>
-        ensures same_slice { keys_mut_name result ≡ pairs.entry.ghost_name }
+        ensures lender { keys_mut_name result ≡ pairs.entry.ghost_name }
         ensures rest { ShowsAllOf deref_mut keys_mut_rest (keys_of pairs.old) result }
     {
         KeysMut::over_items(pairs)

@@ -66,7 +66,7 @@ impl<'a, K, V> IterMut<'a, K, V> {
     /// pairs[0] // ('a', 3)
     /// ```
     pub fn over(pairs: &'a mut [(K, V)]) -> IterMut<'a, K, V>
-        ensures same_slice { iter_mut_name result ≡ pairs.entry.ghost_name }
+        ensures lender { iter_mut_name result ≡ pairs.entry.ghost_name }
         ensures rest { ShowsAllOf deref_pair_mut iter_mut_rest pairs.old result }
     {
         IterMut::over_items(pairs)
@@ -102,7 +102,7 @@ impl<'a, K, V> IterMut2<'a, K, V> {
     /// pairs[0] // ('c', 1)
     /// ```
     pub fn over(pairs: &'a mut [(K, V)]) -> IterMut2<'a, K, V>
-        ensures same_slice { iter_mut2_name result ≡ pairs.entry.ghost_name }
+        ensures lender { iter_mut2_name result ≡ pairs.entry.ghost_name }
         ensures rest { ShowsAllOf deref_both_mut iter_mut2_rest pairs.old result }
     {
         IterMut2::over_items(pairs)

@@ -64,7 +64,7 @@ impl<'a, K, V> ValuesMut<'a, K, V> {
     /// pairs[0] // ('a', 3)
     /// ```
     pub fn over(pairs: &'a mut [(K, V)]) -> ValuesMut<'a, K, V>
-        ensures same_slice { values_mut_name result ≡ pairs.entry.ghost_name }
+        ensures lender { values_mut_name result ≡ pairs.entry.ghost_name }
         ensures rest { ShowsAllOf deref_mut values_mut_rest (values_of pairs.old) result }
     {
         ValuesMut::over_items(pairs)

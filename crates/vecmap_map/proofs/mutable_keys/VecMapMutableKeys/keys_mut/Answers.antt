@@ -4,6 +4,6 @@ use Rattle.vecmap_map.proofs.mutable_keys.VecMapMutableKeys.keys_mut.Goals as go
 
 pub returns : goal.returns
 returns g c = (
-  (sym c.over.ensures.same_slice, refilled_back _ _ c.self.view_is _ c.self.inside.pairs.ok.0),
+  (sym c.over.ensures.lender, refilled_back _ _ c.self.view_is _ c.self.inside.pairs.ok.0),
   record { writes_back = tt; rest = rw (← c.self.view_is, ← c.deref_mut.ensures.value) c.over.ensures.rest },
 )
