@@ -81,7 +81,7 @@ impl<K, V> VecMap<K, V> {
     where
         K: Eq + Clone,
         V: Clone,
-        ensures made { IfOk result (λ map. MakesClones K.eq K.is_clone V.is_clone pairs.now
+        ensures insertion { IfOk result (λ map. MakesClones K.eq K.is_clone V.is_clone pairs.now
             map.entries) }
         ensures at_least { IfOk result (λ map. length pairs.now ≤ map.capacity) }
     {
@@ -132,7 +132,7 @@ impl<K, V> VecMap<K, V> {
         ensures other_err { OnErr result (other.new ≡ other.old) }
 
         // What follows for lookups, lengths and indices. `whole` is what a split has divided.
-        ensures joins { OnOk result (Joins K.eq self.old.entries other.old.entries self.new.entries) }
+        ensures insertion { OnOk result (Joins K.eq self.old.entries other.old.entries self.new.entries) }
         ensures joined { OnOk result ((whole : List (K × V))
             → self.old.entries ++ other.old.entries ≡ whole → HasDistinctKeys K.eq whole
             → self.new.entries ≡ whole) }

@@ -50,7 +50,7 @@ impl<K, V> VecMap<K, V> {
     where
         K: Eq + Drop,
         V: Drop,
-        ensures made { MakesPairs K.eq pairs.items result.0.entries }
+        ensures insertion { MakesPairs K.eq pairs.items result.0.entries }
         ensures capacity { result.0.capacity ≡ vec_capacity pairs }
         ensures counted { result.1 ≡ comparisons K.eq (keys_of pairs.items) }
     {
@@ -84,7 +84,7 @@ impl<K, V> VecMap<K, V> {
     where
         K: Eq + Drop,
         V: Drop,
-        ensures made { IfOk result (λ map. MakesPairs K.eq pairs map.entries) }
+        ensures insertion { IfOk result (λ map. MakesPairs K.eq pairs map.entries) }
         ensures at_least { IfOk result (λ map. N ≤ map.capacity) }
 
         // What follows for lookups, lengths and indices.

@@ -122,7 +122,7 @@ impl<T: Eq> VecSet<T> {
         F: Drop,
         requires callable { CallableOnEach (CallsAtItem F.FnMut)
             (TakesAt F.FnMut) f self.old.elements }
-        ensures retained { RetainsItems (CallsAtItem F.FnMut) f self.old.elements
+        ensures selection { RetainsItems (CallsAtItem F.FnMut) f self.old.elements
             self.new.elements }
         ensures distinct { IsDistinct T.eq self.new.elements }
         ensures capacity { self.new.capacity ≡ self.old.capacity }

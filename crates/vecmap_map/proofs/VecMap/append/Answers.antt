@@ -5,8 +5,8 @@ use Rattle.vecmap_map.proofs.VecMap.append.Goals as goal
 pub returns-clause-list : goal.returns-clause-list
 returns-clause-list g c = grind (arith, common_steps)
 
-pub returns-clause-joins : goal.returns-clause-joins
-returns-clause-joins g c = joins_of_puts g.K.PartialEq.eq g.met.K.Eq.laws c.args.self.now.entries c.args.other.now.entries _ (returns-clause-list g c)
+pub returns-clause-insertion : goal.returns-clause-insertion
+returns-clause-insertion g c = joins_of_puts g.K.PartialEq.eq g.met.K.Eq.laws c.args.self.now.entries c.args.other.now.entries _ (returns-clause-list g c)
 
 pub returns-clause-joined : goal.returns-clause-joined
 returns-clause-joined g c whole e distinct =

@@ -17,8 +17,8 @@ loop-pair-preserved g c =
       room = omega (arith, c.put_clones.ensures.capacity.capacity, c.loop-pair.invariant.room);
     }
 
-pub returns-clause-made : goal.returns-clause-made
-returns-clause-made g c =
+pub returns-clause-insertion : goal.returns-clause-insertion
+returns-clause-insertion g c =
     let clones = c.loop-pair.invariant.puts in
     let is_clone = IsPairClone g.K.Clone.is_clone g.V.Clone.is_clone in
     let whole = take_all c.loop-pair.pair-index c.args.pairs.now c.loop-pair-test.false in

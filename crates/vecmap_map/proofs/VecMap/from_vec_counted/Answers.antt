@@ -1,5 +1,5 @@
 use Rattle.vecmap_base.proofs.PairsLemmas.Parts.{makes_pairs}
 use Rattle.vecmap_map.proofs.VecMap.from_vec_counted.Goals as goal
 
-pub returns-clause-made : goal.returns-clause-made
-returns-clause-made g c = makes_pairs g.K.PartialEq.eq g.met.K.Eq.laws c.args.pairs.items _ c.dedup_keep_last_value.ensures.list
+pub returns-clause-insertion : goal.returns-clause-insertion
+returns-clause-insertion g c = makes_pairs g.K.PartialEq.eq g.met.K.Eq.laws c.args.pairs.items _ c.dedup_keep_last_value.ensures.list

@@ -10,5 +10,5 @@ invariant_of-self g c =
 pub returns-clause-distinct : goal.returns-clause-distinct
 returns-clause-distinct g c = invariant_of-self g c
 
-pub returns-clause-retained : goal.returns-clause-retained
-returns-clause-retained g c = rw (← c.self.view_is) (retains_items (CallsAtItem g.F.FnMut) (λ f x b y h call. call.1) c.args.f _ _ c.retain_items.ensures.retained)
+pub returns-clause-selection : goal.returns-clause-selection
+returns-clause-selection g c = rw (← c.self.view_is) (retains_items (CallsAtItem g.F.FnMut) (λ f x b y h call. call.1) c.args.f _ _ c.retain_items.ensures.retained)
