@@ -45,7 +45,7 @@ const BYTES_OF_PART: usize = 2048;
 pub fn replace_and_move<T>(items: &mut Vec<T>, from: usize, to: usize, item: T) -> T
     requires from_within { from < length items.old.items }
     requires to_within { to < length items.old.items }
-    ensures old { slice_get items.old.items from ≡ Some result }
+    ensures item { slice_get items.old.items from ≡ Some result }
     ensures list { items.new.items ≡ insert (remove items.old.items from) to item }
     ensures capacity { vec_capacity items.new ≡ vec_capacity items.old }
 {
@@ -233,7 +233,7 @@ fn carry_right<T>(items: &mut [T], from: usize, end: usize, item: T) -> T
 fn replace_and_rotate<T>(items: &mut Vec<T>, from: usize, to: usize, item: T) -> T
     requires from_within { from < length items.old.items }
     requires to_within { to < length items.old.items }
-    ensures old { slice_get items.old.items from ≡ Some result }
+    ensures item { slice_get items.old.items from ≡ Some result }
     ensures list { items.new.items ≡ insert (remove items.old.items from) to item }
     ensures capacity { vec_capacity items.new ≡ vec_capacity items.old }
 {

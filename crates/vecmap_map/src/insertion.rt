@@ -36,7 +36,7 @@ impl<K, V> VecMap<K, V> {
     where
         K: Eq + Drop,
         ensures insertion { OnOk result (AddsKey K.eq self.old.entries key value self.new.entries) }
-        ensures old { IfOk result (λ old. old ≡ lookup K.eq self.old.entries key) }
+        ensures returned { IfOk result (λ old. old ≡ lookup K.eq self.old.entries key) }
         ensures capacity { KeepsRoom K.eq self.old key self.new }
 
         // On `Err` the pair is returned, its key is new, and the map is full.
@@ -68,7 +68,7 @@ impl<K, V> VecMap<K, V> {
         ensures index { IfOk result (λ done. done.0 ≡ index_or_length K.eq self.old.entries key) }
         ensures at { IfOk result (λ done. HasMatchAt (K.eq key) self.new.entries done.0) }
         ensures countable { IfOk result (λ done. done.0 < 2 ^ 63) }
-        ensures old { IfOk result (λ done. done.1 ≡ lookup K.eq self.old.entries key) }
+        ensures returned { IfOk result (λ done. done.1 ≡ lookup K.eq self.old.entries key) }
         ensures capacity { KeepsRoom K.eq self.old key self.new }
 
         // On `Err` the pair is returned, its key is new, and the map is full.
@@ -108,7 +108,7 @@ impl<K, V> VecMap<K, V> {
     where
         K: Eq,
         ensures insertion { OnOk result (PutsKey K.eq self.old.entries key value self.new.entries) }
-        ensures old { IfOk result (λ old. FindsPair (K.eq key) self.old.entries old) }
+        ensures returned { IfOk result (λ old. FindsPair (K.eq key) self.old.entries old) }
         ensures capacity { KeepsRoom K.eq self.old key self.new }
 
         // On `Err` the pair is returned, its key is new, and the map is full.
@@ -161,7 +161,7 @@ impl<K, V> VecMap<K, V> {
         requires within { index ≤ length self.old.entries }
         ensures insertion { OnOk result (InsertsAt K.eq index self.old.entries key value
             self.new.entries) }
-        ensures old { IfOk result (λ old. old ≡ lookup_indexed K.eq self.old.entries key) }
+        ensures returned { IfOk result (λ old. old ≡ lookup_indexed K.eq self.old.entries key) }
         ensures capacity { KeepsRoom K.eq self.old key self.new }
 
         // On `Err` the pair is returned, its key is new, and the map is full.

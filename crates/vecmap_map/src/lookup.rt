@@ -80,7 +80,7 @@ impl<K, V> VecMap<K, V> {
     pub fn get<Q: Equivalent<K>>(&self, query: Q) -> Option<&V>
     where
         K: Eq,
-        ensures value { option_copied result ≡ lookup_by (Q.equivalent query) self.now.entries }
+        ensures returned { option_copied result ≡ lookup_by (Q.equivalent query) self.now.entries }
 
         // What follows for lookups, lengths and indices.
         ensures stored { option_copied result ≡ option_and_then (value_at self.now.entries)
@@ -240,7 +240,7 @@ impl<V> VecMap<String, V> {
     /// map.get_str("a") // Some(&1)
     /// ```
     pub fn get_str(&self, text: &str) -> Option<&V>
-        ensures value { option_copied result ≡ lookup_by (has_text text.now) self.now.entries }
+        ensures returned { option_copied result ≡ lookup_by (has_text text.now) self.now.entries }
 
         // What follows for lookups, lengths and indices.
         ensures stored { option_copied result ≡ option_and_then (value_at self.now.entries)

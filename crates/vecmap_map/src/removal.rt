@@ -177,7 +177,7 @@ impl<K, V> VecMap<K, V> {
     pub fn remove<Q: Equivalent<K>>(&mut self, query: Q) -> Option<V>
     where
         K: Eq + Drop,
-        ensures value { result ≡ lookup_by (Q.equivalent query) self.old.entries }
+        ensures returned { result ≡ lookup_by (Q.equivalent query) self.old.entries }
         ensures removal { RemovesBy K.eq without_by (Q.equivalent query) self.old.entries
             self.new.entries }
         ensures indices { IfSome (index_by (Q.equivalent query) self.old.entries)
@@ -266,7 +266,7 @@ impl<K, V> VecMap<K, V> {
     pub fn swap_remove<Q: Equivalent<K>>(&mut self, query: Q) -> Option<V>
     where
         K: Eq + Drop,
-        ensures value { result ≡ lookup_by (Q.equivalent query) self.old.entries }
+        ensures returned { result ≡ lookup_by (Q.equivalent query) self.old.entries }
         ensures removal { RemovesBy K.eq swap_without_by (Q.equivalent query) self.old.entries
             self.new.entries }
         ensures capacity { self.new.capacity ≡ self.old.capacity }
@@ -340,7 +340,7 @@ impl<V> VecMap<String, V> {
     /// map.remove_str("a") // Some(1)
     /// ```
     pub fn remove_str(&mut self, text: &str) -> Option<V>
-        ensures value { result ≡ lookup_by (has_text text.now) self.old.entries }
+        ensures returned { result ≡ lookup_by (has_text text.now) self.old.entries }
         ensures removal { RemovesBy string_eq without_by (has_text text.now) self.old.entries
             self.new.entries }
         ensures indices { IfSome (index_by (has_text text.now) self.old.entries)

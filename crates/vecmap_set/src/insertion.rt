@@ -37,7 +37,7 @@ impl<T: Eq> VecSet<T> {
     where
         T: Drop,
         ensures insertion { OnOk result (AddsItem T.eq self.old.elements item self.new.elements) }
-        ensures added { IfOk result
+        ensures returned { IfOk result
             (λ added. added ≡ not (is_member T.eq self.old.elements item)) }
         ensures distinct { IsDistinct T.eq self.new.elements }
         ensures capacity { KeepsRoom T.eq self.old item self.new }
@@ -72,7 +72,7 @@ impl<T: Eq> VecSet<T> {
             ≡ unwrap_or (item_index T.eq self.old.elements item) (length self.old.elements)) }
         ensures found { IfOk result (λ done. FindsAt (T.eq item) self.new.elements done.0) }
         ensures countable { IfOk result (λ done. done.0 < 2 ^ 63) }
-        ensures added { IfOk result
+        ensures returned { IfOk result
             (λ done. done.1 ≡ not (is_member T.eq self.old.elements item)) }
         ensures distinct { IsDistinct T.eq self.new.elements }
         ensures capacity { KeepsRoom T.eq self.old item self.new }
@@ -102,7 +102,7 @@ impl<T: Eq> VecSet<T> {
     #[tactic(auto, using(vecmap_base::proofs::IndexLemmas::list_any_position, std::proofs::lemmas::Option::gets))]
     pub fn replace(&mut self, item: T) -> Result<Option<T>, Refused<T>>
         ensures insertion { OnOk result (PutsItem T.eq self.old.elements item self.new.elements) }
-        ensures old { IfOk result (λ old. old ≡ stored_item T.eq self.old.elements item) }
+        ensures returned { IfOk result (λ old. old ≡ stored_item T.eq self.old.elements item) }
         ensures distinct { IsDistinct T.eq self.new.elements }
         ensures capacity { KeepsRoom T.eq self.old item self.new }
         ensures given { IfErr result (λ refused. refused.given ≡ item) }

@@ -74,7 +74,7 @@ impl<T: Eq> VecSet<T> {
     /// ```
     #[tactic(auto, using(vecmap_base::proofs::IndexLemmas::list_any_position, crate::proofs::QueryLemmas::reference_matches))]
     pub fn get<Q: Equivalent<T>>(&self, query: Q) -> Option<&T>
-        ensures element { option_copied result
+        ensures returned { option_copied result
             ≡ stored_first (Q.equivalent query) self.now.elements }
         ensures found { is_some result ≡ list_any (Q.equivalent query) self.now.elements }
         ensures matched { IfSome result (λ x. IsTrue (Q.equivalent query x.now)) }

@@ -169,7 +169,7 @@ impl<T: Eq> VecSet<T> {
     pub fn remove<Q: Equivalent<T>>(&mut self, query: Q) -> bool
     where
         T: Drop,
-        ensures found { result ≡ list_any (Q.equivalent query) self.old.elements }
+        ensures returned { result ≡ list_any (Q.equivalent query) self.old.elements }
         ensures removal { RemovesItemBy T.eq without_first (Q.equivalent query)
             self.old.elements self.new.elements }
         ensures capacity { self.new.capacity ≡ self.old.capacity }
@@ -225,7 +225,7 @@ impl<T: Eq> VecSet<T> {
     pub fn swap_remove<Q: Equivalent<T>>(&mut self, query: Q) -> bool
     where
         T: Drop,
-        ensures found { result ≡ list_any (Q.equivalent query) self.old.elements }
+        ensures returned { result ≡ list_any (Q.equivalent query) self.old.elements }
         ensures removal { RemovesItemBy T.eq swap_without_first (Q.equivalent query)
             self.old.elements self.new.elements }
         ensures capacity { self.new.capacity ≡ self.old.capacity }
@@ -313,7 +313,7 @@ impl VecSet<String> {
     /// set.remove_str("a") // true
     /// ```
     pub fn remove_str(&mut self, text: &str) -> bool
-        ensures found { result ≡ list_any (has_text text.now) self.old.elements }
+        ensures returned { result ≡ list_any (has_text text.now) self.old.elements }
         ensures removal { RemovesItemBy string_eq without_first (has_text text.now)
             self.old.elements self.new.elements }
         ensures capacity { self.new.capacity ≡ self.old.capacity }

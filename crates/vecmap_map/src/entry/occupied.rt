@@ -142,7 +142,7 @@ impl<'a, K, V> OccupiedEntry<'a, K, V> {
     /// *entry.get() // 4
     /// ```
     pub fn insert(&mut self, value: V) -> V
-        ensures old { entry_value (Occupied self.old) ≡ Some result }
+        ensures returned { entry_value (Occupied self.old) ≡ Some result }
         ensures after { self.new ≡ occupied_with self.old value }
         ensures later { LeavesSame (Occupied self.old) (Occupied self.new) }
     {
@@ -215,7 +215,7 @@ impl<'a, K, V> OccupiedEntry<'a, K, V> {
     pub fn remove(self) -> V
     where
         K: Drop,
-        ensures value { entry_value (Occupied self.entry) ≡ Some result }
+        ensures returned { entry_value (Occupied self.entry) ≡ Some result }
         ensures list { self.exit.0.now.entries ≡ entries_without (Occupied self.entry) }
         ensures capacity { self.exit.0.now.capacity ≡ (entry_map (Occupied self.entry)).capacity }
     {
@@ -236,7 +236,7 @@ impl<'a, K, V> OccupiedEntry<'a, K, V> {
     pub fn swap_remove(self) -> V
     where
         K: Drop,
-        ensures value { entry_value (Occupied self.entry) ≡ Some result }
+        ensures returned { entry_value (Occupied self.entry) ≡ Some result }
         ensures list { self.exit.0.now.entries ≡ entries_swap_without (Occupied self.entry) }
         ensures capacity { self.exit.0.now.capacity ≡ (entry_map (Occupied self.entry)).capacity }
     {

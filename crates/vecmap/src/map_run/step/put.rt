@@ -13,7 +13,7 @@ pub(crate) fn put_if_new<K: Eq + Clone, V: Eq + Clone>(
     value: V,
 ) -> Result<(usize, bool), Refused<(K, V)>>
     ensures index { IfOk result (λ kept. kept.0 ≡ index_or_length K.eq map.old.entries key) }
-    ensures added { IfOk result (λ kept. kept.1
+    ensures returned { IfOk result (λ kept. kept.1
         ≡ not (is_some (index_of K.eq map.old.entries key))) }
     ensures list { OnOk result (map.new.entries
         ≡ put K.eq map.old.entries key (unwrap_or (lookup K.eq map.old.entries key) value)) }

@@ -11,8 +11,8 @@ returns-then-to-from-lt-MAX_CARRIED_LEFT-clause-list g c =
     let carried = c.carry_left.ensures.list ∙ ap (λ l. insert l (c.args.to + 1) c.args.item) c.deref_mut.ensures.value in
     take_at new _ _ long ∙ (carried_to items.items new c.args.from c.args.to (c.args.to + 1) c.args.item c.carry_left.result (omega arith) (omega (arith, c.if-from-to.true)) c.requires.to_within (omega (arith, long, items.ok, c.requires.from_within)) carried).0
 
-pub returns-then-from-to-lt-MAX_CARRIED_RIGHT-clause-old : goal.returns-then-from-to-lt-MAX_CARRIED_RIGHT-clause-old
-returns-then-from-to-lt-MAX_CARRIED_RIGHT-clause-old g c =
+pub returns-then-from-to-lt-MAX_CARRIED_RIGHT-clause-item : goal.returns-then-from-to-lt-MAX_CARRIED_RIGHT-clause-item
+returns-then-from-to-lt-MAX_CARRIED_RIGHT-clause-item g c =
     let items = c.args.items.now in
     let new = c.carry_right.new.items in
     let lent = c.deref_mut-then-from-to-lt-MAX_CARRIED_RIGHT.ensures in

@@ -2,5 +2,5 @@ use Rattle.std.proofs.Common.{arith}
 use Rattle.vecmap_base.proofs.PairsLemmas.ByIndex.{value_found}
 use Rattle.vecmap_map.proofs.VecMap.get.Goals as goal
 
-pub returns-clause-value : goal.returns-clause-value
-returns-clause-value g c = grind (arith, value_found (g.Q.Equivalent.equivalent c.args.query) c.args.self.now.entries c.in_ok-index.index c.index.result.now)
+pub returns-clause-returned : goal.returns-clause-returned
+returns-clause-returned g c = grind (arith, value_found (g.Q.Equivalent.equivalent c.args.query) c.args.self.now.entries c.in_ok-index.index c.index.result.now)

@@ -7,8 +7,8 @@ pub returns-in-Some-clause-insertion : goal.returns-in-Some-clause-insertion
 returns-in-Some-clause-insertion g c =
     adds_key g.K.PartialEq.eq g.met.K.Eq.laws _ _ _ _ (grind (arith, value_written g.K.PartialEq.eq c.args.self.now.entries c.args.key c.args.value c.in-Some.index c.index_mut.result.now))
 
-pub returns-in-Some-clause-old : goal.returns-in-Some-clause-old
-returns-in-Some-clause-old g c = grind (arith, value_found (g.K.PartialEq.eq c.args.key) c.args.self.now.entries c.in-Some.index c.index_mut.result.now)
+pub returns-in-Some-clause-returned : goal.returns-in-Some-clause-returned
+returns-in-Some-clause-returned g c = grind (arith, value_found (g.K.PartialEq.eq c.args.key) c.args.self.now.entries c.in-Some.index c.index_mut.result.now)
 
 pub returns-in-Some-clause-index : goal.returns-in-Some-clause-index
 returns-in-Some-clause-index g c = grind arith

@@ -6,11 +6,11 @@ use Rattle.vecmap_map.proofs.VecMap.insert_key.Goals as goal
 pub returns-in-Some-clause-insertion : goal.returns-in-Some-clause-insertion
 returns-in-Some-clause-insertion g c = puts_key g.K.PartialEq.eq g.met.K.Eq.laws c.args.self.now.entries _ c.args.key c.args.value (grind (arith, put_key_by_index))
 
-pub returns-in-Some-clause-old : goal.returns-in-Some-clause-old
-returns-in-Some-clause-old g c = finds_pair (g.K.PartialEq.eq c.args.key) _ _ (grind (arith, pair_found (g.K.PartialEq.eq c.args.key) c.args.self.now.entries c.in-Some.index c.index_mut.result.now))
+pub returns-in-Some-clause-returned : goal.returns-in-Some-clause-returned
+returns-in-Some-clause-returned g c = finds_pair (g.K.PartialEq.eq c.args.key) _ _ (grind (arith, pair_found (g.K.PartialEq.eq c.args.key) c.args.self.now.entries c.in-Some.index c.index_mut.result.now))
 
 pub returns-clause-insertion : goal.returns-clause-insertion
 returns-clause-insertion g c = puts_key g.K.PartialEq.eq g.met.K.Eq.laws c.args.self.now.entries _ c.args.key c.args.value (grind (arith, put_key_by_index))
 
-pub returns-clause-old : goal.returns-clause-old
-returns-clause-old g c = finds_pair (g.K.PartialEq.eq c.args.key) _ _ (grind (arith, by_index))
+pub returns-clause-returned : goal.returns-clause-returned
+returns-clause-returned g c = finds_pair (g.K.PartialEq.eq c.args.key) _ _ (grind (arith, by_index))

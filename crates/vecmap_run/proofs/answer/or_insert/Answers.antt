@@ -5,7 +5,7 @@ use Rattle.vecmap_run.proofs.answer.or_insert.Goals as goal
 pub returns-in-Some : goal.returns-in-Some
 returns-in-Some c =
     let stored : FitsSigned w64 c.in-Some.found.now = search rules in
-    let found = keep_found c.args.key.now c.args.map.now.entries c.in-Some.found.now c.args.value (sym c.in-Some.ensures.value) in
+    let found = keep_found c.args.key.now c.args.map.now.entries c.in-Some.found.now c.args.value (sym c.in-Some.ensures.returned) in
     (found.0, found.1, simp to_z-of_z found.2, found.3)
 
 pub returns-in-Ok : goal.returns-in-Ok

@@ -5,17 +5,17 @@ use Rattle.attr_doc.proofs.document.Document.get.Goals as goal
 pub returns-in_err-texts : goal.returns-in_err-texts
 returns-in_err-texts c =
     ap option_copied c.from_residual.ensures
-    ∙ text_of_none c.self.inside.sections.entries c.args.section.now c.args.name.now c.in_err-texts.ensures.value
+    ∙ text_of_none c.self.inside.sections.entries c.args.section.now c.args.name.now c.in_err-texts.ensures.returned
     ∙ ap (λ d. text_of d c.args.section.now c.args.name.now) c.self.view_is
 
 pub returns-in_err-text : goal.returns-in_err-text
 returns-in_err-text c =
-    ap option_copied c.from_residual-in_err-text.ensures ∙ ap (option_map string_bytes) c.in_err-text.ensures.value
-    ∙ text_of_some c.self.inside.sections.entries c.args.section.now c.args.name.now c.in_ok-texts.texts.now c.in_ok-texts.ensures.value
+    ap option_copied c.from_residual-in_err-text.ensures ∙ ap (option_map string_bytes) c.in_err-text.ensures.returned
+    ∙ text_of_some c.self.inside.sections.entries c.args.section.now c.args.name.now c.in_ok-texts.texts.now c.in_ok-texts.ensures.returned
     ∙ ap (λ d. text_of d c.args.section.now c.args.name.now) c.self.view_is
 
 pub returns : goal.returns
 returns c =
-    ap (λ x. Some x) c.as_str.ensures.value ∙ ap (option_map string_bytes) c.in_ok-text.ensures.value
-    ∙ text_of_some c.self.inside.sections.entries c.args.section.now c.args.name.now c.in_ok-texts.texts.now c.in_ok-texts.ensures.value
+    ap (λ x. Some x) c.as_str.ensures.value ∙ ap (option_map string_bytes) c.in_ok-text.ensures.returned
+    ∙ text_of_some c.self.inside.sections.entries c.args.section.now c.args.name.now c.in_ok-texts.texts.now c.in_ok-texts.ensures.returned
     ∙ ap (λ d. text_of d c.args.section.now c.args.name.now) c.self.view_is
