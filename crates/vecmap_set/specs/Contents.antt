@@ -1,7 +1,7 @@
 -- What a contract sees of a `VecSet`, and what calls say of its capacity. In the examples, `set_of l n` is the set
 -- with the elements `l` and the capacity `n`, and `done` and `failed` are results of calls.
 use Rattle.std.specs.Prelude.{◌≡◌, ◌++◌, ◌∷◌, [], ◌+◌, ◌<◌, ◌≤◌, ℕ, Bool, IsOk, IsSome, IsTrue, List, OnErr, OnOk, Option, Result, false, length}
-use Rattle.std.specs.Set.{is_member}
+use Rattle.std.specs.{List.IsDistinct, Set.is_member}
 use Rattle.vecmap_base.specs.declared.refused.Refused.{Refused}
 
 -- The elements from the first to the last, and how many of them fit before the vector grows.
@@ -25,24 +25,6 @@ module _ {T : Type 0} where
   abbrev pub IsFull : Contents T → Type 0
   IsFull s = length s.elements ≡ s.capacity
 
-  -- Example: `Reserves 1 (set_of [a] 1) done (set_of [a] 2)`; `¬ (Reserves 1 (set_of [a] 1) done (set_of [] 2))`.
-  -- Example: `¬ (Reserves 1 (set_of [a] 1) done (set_of [a] 1))`.
-  -- Example: `¬ (Reserves 0 (set_of [a] 0) failed (set_of [a] 0))`.
-  -- Example: `¬ (Reserves 1 (set_of [a] 2) failed (set_of [a] 2))`.
-  -- Example: `¬ (Reserves 1 (set_of [a] 2) done (set_of [a] 4))`.
-  -- Example: `¬ (Reserves 1 (set_of [a] 1) failed (set_of [a] 2))`.
-  -- What a call that reserves capacity for `additional` more elements returns and leaves.
-  pub record Reserves {A E : Type 0} (additional : ℕ) (old : Contents T) (result : Result A E) (new : Contents T) : Type 0 where
-    -- What stays, and how much fits afterwards.
-    pub elements : new.elements ≡ old.elements
-    pub room : OnOk result (HasRoom new additional)
-    pub capacity : old.capacity ≤ new.capacity
-    -- When the call succeeds, and what it leaves if it has nothing to do, or fails.
-    pub some : OnErr result (0 < additional)
-    pub succeeds : HasRoom old additional → IsOk result
-    pub unchanged : HasRoom old additional → new ≡ old
-    pub err : OnErr result (new ≡ old)
-
   -- Example: `KeepsRoomAt None (set_of [a] 1) (set_of [a, b] 4)`.
   -- Example: `¬ (KeepsRoomAt None (set_of [a] 2) (set_of [a, b] 4))`.
   -- Example: `¬ (KeepsRoomAt (Some 0) (set_of [a] 1) (set_of [a] 2))`.
@@ -62,6 +44,27 @@ module _ {T : Type 0} where
   FailsToAppend becomes made old error = (item : T) × made item × IsFull old × becomes (record { given = item }) error
 
 module _ {T : Type 0} (eq : T → T → Bool) where
+  -- Example: `Reserves nat_eq 1 (set_of [1] 1) done (set_of [1] 2)`.
+  -- Example: `¬ (Reserves nat_eq 1 (set_of [1] 1) done (set_of [] 2))`.
+  -- Example: `¬ (Reserves nat_eq 1 (set_of [1] 1) done (set_of [1] 1))`.
+  -- Example: `¬ (Reserves nat_eq 0 (set_of [1] 0) failed (set_of [1] 0))`.
+  -- Example: `¬ (Reserves nat_eq 1 (set_of [1] 2) failed (set_of [1] 2))`.
+  -- Example: `¬ (Reserves nat_eq 1 (set_of [1] 2) done (set_of [1] 4))`.
+  -- Example: `¬ (Reserves nat_eq 1 (set_of [1] 1) failed (set_of [1] 2))`.
+  -- What a call that reserves capacity for `additional` more elements returns and leaves.
+  pub record Reserves {A E : Type 0} (additional : ℕ) (old : Contents T) (result : Result A E) (new : Contents T) : Type 0 where
+    -- What stays, and how much fits afterwards.
+    pub elements : new.elements ≡ old.elements
+    pub distinct : IsDistinct eq new.elements
+    -- How much fits afterwards, and when the call succeeds.
+    pub room : OnOk result (HasRoom new additional)
+    pub capacity : old.capacity ≤ new.capacity
+    -- When the call succeeds, and what it leaves if it has nothing to do, or fails.
+    pub some : OnErr result (0 < additional)
+    pub succeeds : HasRoom old additional → IsOk result
+    pub unchanged : HasRoom old additional → new ≡ old
+    pub err : OnErr result (new ≡ old)
+
   -- Example: `KeepsRoom nat_eq (set_of [1] 2) 2 (set_of [1, 2] 2)`.
   -- Example: `¬ (KeepsRoom nat_eq (set_of [1] 2) 2 (set_of [1, 2] 4))`.
   -- Example: `¬ (KeepsRoom nat_eq (set_of [1] 1) 1 (set_of [1] 2))`.

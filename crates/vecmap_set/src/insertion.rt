@@ -226,8 +226,7 @@ impl<T: Eq> VecSet<T> {
 
     // Reserves capacity for one more element.
     fn reserve_one(&mut self) -> Result<(), AllocError>
-        ensures distinct { IsDistinct T.eq self.new.elements }
-        ensures reserved { Reserves 1 self.old result self.new }
+        ensures reserved { Reserves T.eq 1 self.old result self.new }
         ensures full { OnErr result (IsFull self.old) }
     {
         if self.items.len() < self.items.capacity() {

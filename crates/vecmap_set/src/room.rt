@@ -73,8 +73,7 @@ impl<T: Eq> VecSet<T> {
     /// 12 <= set.capacity() // true
     /// ```
     pub fn reserve(&mut self, additional: usize) -> Result<(), AllocError>
-        ensures distinct { IsDistinct T.eq self.new.elements }
-        ensures reserved { Reserves additional self.old result self.new }
+        ensures reserved { Reserves T.eq additional self.old result self.new }
     {
         if self.has_room(additional) {
             return Ok(());
@@ -92,8 +91,7 @@ impl<T: Eq> VecSet<T> {
     /// 12 <= set.capacity() // true
     /// ```
     pub fn reserve_exact(&mut self, additional: usize) -> Result<(), AllocError>
-        ensures distinct { IsDistinct T.eq self.new.elements }
-        ensures reserved { Reserves additional self.old result self.new }
+        ensures reserved { Reserves T.eq additional self.old result self.new }
     {
         if self.has_room(additional) {
             return Ok(());
@@ -111,8 +109,7 @@ impl<T: Eq> VecSet<T> {
     /// set.try_reserve(usize::MAX).is_ok() // false
     /// ```
     pub fn try_reserve(&mut self, additional: usize) -> Result<(), TryReserveError>
-        ensures distinct { IsDistinct T.eq self.new.elements }
-        ensures reserved { Reserves additional self.old result self.new }
+        ensures reserved { Reserves T.eq additional self.old result self.new }
     {
         self.reserve(additional)
     }
@@ -127,8 +124,7 @@ impl<T: Eq> VecSet<T> {
     /// set.try_reserve_exact(usize::MAX).is_ok() // false
     /// ```
     pub fn try_reserve_exact(&mut self, additional: usize) -> Result<(), TryReserveError>
-        ensures distinct { IsDistinct T.eq self.new.elements }
-        ensures reserved { Reserves additional self.old result self.new }
+        ensures reserved { Reserves T.eq additional self.old result self.new }
     {
         self.reserve_exact(additional)
     }
