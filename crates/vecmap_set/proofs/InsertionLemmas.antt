@@ -1,5 +1,5 @@
 -- The records of insertions, from the list that is left.
-use Rattle.std.specs.{Cmp.IsEquivalence, List.list_any, Map.IsKeyTest, Option.option_map_or, Set.is_member}
+use Rattle.std.specs.{Cmp.IsEquivalence, List.{IsDistinct, list_any}, Map.IsKeyTest, Option.option_map_or, Set.is_member}
 use Rattle.std.proofs.Common.{◌≡◌, ◌∙◌, ◌++◌, ◌+◌, ℕ, Bool, true, false, List, [], ◌∷◌, None, Option, Some, IsTrue, ap, arith, if◌then◌else◌, inl, inr, is_some, length, length-append, not, position, refl, slice_set, subst, sym, true≢false}
 use Rattle.std.proofs.{lemmas.Bool.cases_Bool, lemmas.List.length-set}
 use Rattle.vecmap_base.specs.{Items.{add, item_index, put_item}, Lookups.UpdatesMember}
@@ -8,7 +8,7 @@ use Rattle.vecmap_base.proofs.{ItemsLemmas.Additions.add_absent, ItemsLemmas.Mem
 use Rattle.vecmap_set.specs.Insertions.{AddsItem, AddsItemBy, PutsItem}
 use Rattle.vecmap_set.proofs.{IndexLemmas.{indices_appended, indices_of_put, indices_stay}, QueryLemmas.any_of_add}
 
-module _ {T : Type 0} (eq : T → T → Bool) (o : IsEquivalence eq) (s r : List T) (x : T) where
+module _ {T : Type 0} (eq : T → T → Bool) (o : IsEquivalence eq) (s r : List T) (d : IsDistinct eq r) (x : T) where
   module _ (test : T → Bool) (respects : IsKeyTest eq test) where
     pub adds_item_by : IsTrue (test x) → r ≡ (if list_any test s then s else s ++ x ∷ []) → AddsItemBy eq test s r
     adds_item_by hit e =
@@ -17,6 +17,7 @@ module _ {T : Type 0} (eq : T → T → Bool) (o : IsEquivalence eq) (s r : List
               let same : r ≡ s = e ∙ ap (λ b. if b then s else s ++ x ∷ []) h in
               record {
                 elements = (x, hit, e);
+                distinct = d;
                 updates = subst (λ l. UpdatesMember eq test s l true) (sym same) (members_matched eq o test respects s h);
                 len = rw h (let long = ap length same in omega (arith, long));
                 indices = indices_stay s r same;
@@ -25,6 +26,7 @@ module _ {T : Type 0} (eq : T → T → Bool) (o : IsEquivalence eq) (s r : List
               let more : r ≡ s ++ x ∷ [] = e ∙ ap (λ b. if b then s else s ++ x ∷ []) n in
               record {
                 elements = (x, hit, e);
+                distinct = d;
                 updates = members_appended_by eq o test respects s r x more (position_none test s n) hit;
                 len = rw n (ap length more ∙ length-append s (x ∷ []));
                 indices = indices_appended s r (x ∷ []) more;
@@ -44,6 +46,7 @@ module _ {T : Type 0} (eq : T → T → Bool) (o : IsEquivalence eq) (s r : List
       let appended : is_member eq s x ≡ false → r ≡ s ++ x ∷ [] = λ new. e ∙ add_absent eq s x new in
       record {
         elements = e;
+        distinct = d;
         updates = added.updates;
         any = any_of_add eq s r x e;
         appended = λ new. appended (is_new (is_member eq s x) new);
@@ -59,6 +62,7 @@ module _ {T : Type 0} (eq : T → T → Bool) (o : IsEquivalence eq) (s r : List
   pub puts_item : r ≡ put_item eq s x → PutsItem eq s x r
   puts_item e = record {
     elements = e;
+    distinct = d;
     updates = members_of_put eq o s r x e;
     appended = λ new. e ∙ by (position (eq x) s) (sym (list_any_position (eq x) s) ∙ list_any_stored (eq x) s ∙ ap is_some new);
     index = last (λ new. e ∙ by (position (eq x) s) (sym (list_any_position (eq x) s) ∙ new));

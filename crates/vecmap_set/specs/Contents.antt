@@ -56,7 +56,6 @@ module _ {T : Type 0} (eq : T → T → Bool) where
     -- What stays, and how much fits afterwards.
     pub elements : new.elements ≡ old.elements
     pub distinct : IsDistinct eq new.elements
-    -- How much fits afterwards, and when the call succeeds.
     pub room : OnOk result (HasRoom new additional)
     pub capacity : old.capacity ≤ new.capacity
     -- When the call succeeds, and what it leaves if it has nothing to do, or fails.
@@ -80,5 +79,6 @@ module _ {T : Type 0} (eq : T → T → Bool) where
   -- Memory ran out for the element x: the set is unchanged, no equal element is present, and the set is full.
   pub record Refuses (old : Contents T) (x : T) (new : Contents T) : Type 0 where
     pub unchanged : new ≡ old
+    pub distinct : IsDistinct eq new.elements
     pub absent : is_member eq old.elements x ≡ false
     pub full : IsFull old

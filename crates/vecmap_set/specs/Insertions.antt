@@ -2,7 +2,7 @@
 -- list, and the others follow from it. `eq` is the `==` of the elements. In the examples, `1x` and `1y` are elements that
 -- `eq` calls equal, and are not the same.
 use Rattle.std.specs.Prelude.{◌≡◌, ◌++◌, ◌∷◌, ◌+◌, ◌||◌, Bool, IsTrue, List, [], None, Some, false, if◌then◌else◌, is_some, length, not, true}
-use Rattle.std.specs.{List.list_any, Set.is_member}
+use Rattle.std.specs.{List.{IsDistinct, list_any}, Set.is_member}
 use Rattle.vecmap_base.specs.{Items.{add, item_index, put_item, stored_item}, Lookups.UpdatesMember}
 use Rattle.vecmap_set.specs.{Indices.{KeepsItemIndices, KeepsMatchIndices}, Tests.AgreesOnEquals}
 
@@ -11,6 +11,7 @@ module _ {T : Type 0} (eq : T → T → Bool) where
   -- The list `r` is the list `s` after an insertion of `x`: an equal element stays, and a new one is appended.
   pub record AddsItem (s : List T) (x : T) (r : List T) : Type 0 where
     pub elements : r ≡ add eq s x
+    pub distinct : IsDistinct eq r
     -- What queries find, and for which tests an element passes, if they do not tell equal elements apart.
     pub updates : UpdatesMember eq (eq x) s r true
     pub any : (f : T → Bool) → AgreesOnEquals eq f → list_any f r ≡ (f x || list_any f s)
@@ -24,6 +25,7 @@ module _ {T : Type 0} (eq : T → T → Bool) where
   -- The list `r` is the list `s` after an insertion of `x` that replaces an equal element; a new one is appended.
   pub record PutsItem (s : List T) (x : T) (r : List T) : Type 0 where
     pub elements : r ≡ put_item eq s x
+    pub distinct : IsDistinct eq r
     -- What queries find.
     pub updates : UpdatesMember eq (eq x) s r true
     -- Where a new element is, how many there are, and where the old ones are.
@@ -36,6 +38,7 @@ module _ {T : Type 0} (eq : T → T → Bool) where
   -- The list `r` is the list `s` if an element passes the test, or else `s` with such an element appended.
   pub record AddsItemBy (test : T → Bool) (s r : List T) : Type 0 where
     pub elements : (x : T) × IsTrue (test x) × (r ≡ (if list_any test s then s else s ++ x ∷ []))
+    pub distinct : IsDistinct eq r
     -- What queries find, how many elements there are, and where the old ones are.
     pub updates : UpdatesMember eq test s r true
     pub len : length r ≡ length s + (if not (list_any test s) then 1 else 0)

@@ -1,6 +1,6 @@
 //! Insertion of one element.
 ghost use Rattle.std.specs.Prelude.{◌≡◌, ◌^◌, ◌++◌, ◌∷◌, ◌<◌, ◌≤◌, ◌||◌, ◌⊎◌, Bool, Err, IfErr, IfOk, IfSome, IsTrue, None, Ok, OnErr, OnOk, Some, [], false, length, not, position, slice_get, unwrap_or};
-ghost use Rattle.std.specs.{List.{IsDistinct, list_any}, Set.is_member};
+ghost use Rattle.std.specs.{List.list_any, Set.is_member};
 ghost use Rattle.vecmap_base.specs.Items.{item_index, stored_item};
 ghost use Rattle.vecmap_set.specs.{Contents.{Appends, FailsToAppend, IsFull, KeepsRoom, KeepsRoomAt, Refuses, Reserves}, Indices.FindsAt, Insertions.{AddsItem, AddsItemBy, PutsItem}};
 
@@ -39,7 +39,6 @@ impl<T: Eq> VecSet<T> {
         ensures insertion { OnOk result (AddsItem T.eq self.old.elements item self.new.elements) }
         ensures returned { IfOk result
             (λ added. added ≡ not (is_member T.eq self.old.elements item)) }
-        ensures distinct { IsDistinct T.eq self.new.elements }
         ensures capacity { KeepsRoom T.eq self.old item self.new }
         ensures unchanged { IsTrue (is_member T.eq self.old.elements item)
             → self.new ≡ self.old }
@@ -74,7 +73,6 @@ impl<T: Eq> VecSet<T> {
         ensures countable { IfOk result (λ done. done.0 < 2 ^ 63) }
         ensures returned { IfOk result
             (λ done. done.1 ≡ not (is_member T.eq self.old.elements item)) }
-        ensures distinct { IsDistinct T.eq self.new.elements }
         ensures capacity { KeepsRoom T.eq self.old item self.new }
         ensures unchanged { IsTrue (is_member T.eq self.old.elements item)
             → self.new ≡ self.old }
@@ -103,7 +101,6 @@ impl<T: Eq> VecSet<T> {
     pub fn replace(&mut self, item: T) -> Result<Option<T>, Refused<T>>
         ensures insertion { OnOk result (PutsItem T.eq self.old.elements item self.new.elements) }
         ensures returned { IfOk result (λ old. old ≡ stored_item T.eq self.old.elements item) }
-        ensures distinct { IsDistinct T.eq self.new.elements }
         ensures capacity { KeepsRoom T.eq self.old item self.new }
         ensures given { IfErr result (λ refused. refused.given ≡ item) }
         ensures err { OnErr result (Refuses T.eq self.old item self.new) }
@@ -147,7 +144,6 @@ impl<T: Eq> VecSet<T> {
             ≡ (f item || list_any f self.old.elements)) }
         ensures at { OnOk result (slice_get self.new.elements (length self.old.elements)
             ≡ Some item) }
-        ensures distinct { IsDistinct T.eq self.new.elements }
         ensures capacity { KeepsRoom T.eq self.old item self.new }
         ensures given { IfErr result (λ refused. refused.given ≡ item) }
         ensures err { OnErr result (Refuses T.eq self.old item self.new) }
@@ -203,7 +199,6 @@ impl<T: Eq> VecSet<T> {
             (λ i. (result ≡ Ok i) × (self.new ≡ self.old)) }
         ensures appended { OnOk result (position (Q.equivalent query) self.old.elements ≡ None
             → Appends (λ item. F.post make (Ok item)) self.old self.new) }
-        ensures distinct { IsDistinct T.eq self.new.elements }
         ensures capacity { KeepsRoomAt (position (Q.equivalent query) self.old.elements)
             self.old self.new }
 

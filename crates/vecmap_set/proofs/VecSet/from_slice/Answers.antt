@@ -13,7 +13,7 @@ loop-item-preserved g c =
     let more : take i items ++ x ∷ [] ≡ take (i + 1) items = ap (λ y. take i items ++ y ∷ []) c.item-item.is ∙ sym (take_more items i x c.loop-item-test.true) in record {
       elements = subst (λ l. TakesClones is_clone (add eq) [] l c.insert.new.self.elements) more
           (clone_taken is_clone (add eq) [] (take i items) c.loop-item.set.elements c.insert.new.self.elements x c.in_ok-clone.field-0 c.loop-item.invariant.elements c.in_ok-clone.ensures.cases c.in_ok-insert.ensures.insertion.elements);
-      distinct = c.insert.ensures.distinct;
+      distinct = c.in_ok-insert.ensures.insertion.distinct;
     }
 
 pub returns : goal.returns

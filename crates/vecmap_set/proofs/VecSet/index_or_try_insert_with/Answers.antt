@@ -13,7 +13,7 @@ returns-in-Some-clause-insertion g c =
     let s = c.args.self.now.elements in
     let found = returns-in-Some-clause-found g c in
     let some : list_any test s ≡ true = list_any_position test s ∙ ap is_some found.index in
-    adds_item_by g.T.PartialEq.eq g.met.T.Eq.laws s s found.at.0 test (g.met.Q.Equivalent.respects_eq c.args.query) found.at.2 (sym (ap (λ b. if b then s else s ++ found.at.0 ∷ []) some))
+    adds_item_by g.T.PartialEq.eq g.met.T.Eq.laws s s (search rules) found.at.0 test (g.met.Q.Equivalent.respects_eq c.args.query) found.at.2 (sym (ap (λ b. if b then s else s ++ found.at.0 ∷ []) some))
 
 pub insert_unique-requires : goal.insert_unique-requires
 insert_unique-requires g c = record {
@@ -34,4 +34,4 @@ returns-in-Ok-clause-insertion g c =
     let x = c.in_ok-item.item in
     let none : position test s ≡ None = search rules in
     let absent : list_any test s ≡ false = list_any_position test s ∙ ap is_some none in
-    adds_item_by g.T.PartialEq.eq g.met.T.Eq.laws s _ x test (g.met.Q.Equivalent.respects_eq c.args.query) (c.requires.made _ c.in_ok-item.ensures) (c.in-Ok.ensures.list ∙ sym (ap (λ b. if b then s else s ++ x ∷ []) absent))
+    adds_item_by g.T.PartialEq.eq g.met.T.Eq.laws s _ (search rules) x test (g.met.Q.Equivalent.respects_eq c.args.query) (c.requires.made _ c.in_ok-item.ensures) (c.in-Ok.ensures.list ∙ sym (ap (λ b. if b then s else s ++ x ∷ []) absent))

@@ -8,7 +8,7 @@ pub returns-in-Some-clause-found : goal.returns-in-Some-clause-found
 returns-in-Some-clause-found g c = finds_at (g.T.PartialEq.eq c.args.item) c.args.self.now.elements c.in-Some.index (search rules)
 
 pub returns-in-Some-clause-insertion : goal.returns-in-Some-clause-insertion
-returns-in-Some-clause-insertion g c = adds_item g.T.PartialEq.eq g.met.T.Eq.laws c.args.self.now.elements _ c.args.item (search (rules, list_any_position))
+returns-in-Some-clause-insertion g c = adds_item g.T.PartialEq.eq g.met.T.Eq.laws c.args.self.now.elements _ (search rules) c.args.item (search (rules, list_any_position))
 
 pub returns-clause-found : goal.returns-clause-found
 returns-clause-found g c =

@@ -11,11 +11,8 @@ invariant_of-self g c =
     let at = position-Some (g.T.PartialEq.eq c.args.item) c.self.inside.items.items c.in-Some.index c.args.item place in
     rw c.replace.ensures.after (distinct_replace g.T.PartialEq.eq g.met.T.Eq.laws c.self.inside.items.items c.in-Some.index c.args.item at.0 at.1 c.self.invariant)
 
-pub returns-in-Some-clause-distinct : goal.returns-in-Some-clause-distinct
-returns-in-Some-clause-distinct g c = invariant_of-self g c
-
 pub returns-in-Some-clause-insertion : goal.returns-in-Some-clause-insertion
-returns-in-Some-clause-insertion g c = puts_item g.T.PartialEq.eq g.met.T.Eq.laws c.args.self.now.elements _ c.args.item (search (rules, list_any_position, gets))
+returns-in-Some-clause-insertion g c = puts_item g.T.PartialEq.eq g.met.T.Eq.laws c.args.self.now.elements _ (invariant_of-self g c) c.args.item (search (rules, list_any_position, gets))
 
 pub returns-clause-insertion : goal.returns-clause-insertion
-returns-clause-insertion g c = puts_item g.T.PartialEq.eq g.met.T.Eq.laws c.args.self.now.elements _ c.args.item (search (rules, list_any_position, gets))
+returns-clause-insertion g c = puts_item g.T.PartialEq.eq g.met.T.Eq.laws c.args.self.now.elements _ (search rules) c.args.item (search (rules, list_any_position, gets))
