@@ -1,7 +1,7 @@
 -- What a borrow of the pairs leaves, and what a call leaves that appends a pair if a query matches nothing.
 use Rattle.std.specs.{Cmp.IsEquivalence, List.refill, Map.IsKeyTest}
 use Rattle.std.proofs.Common.{arith, ◌≡◌, ◌∙◌, ◌++◌, ◌+◌, ℕ, Bool, true, List, [], ◌∷◌, None, Some, ap, if◌then◌else◌, is_some, length, refl, sym, true≢false, unwrap_or}
-use Rattle.std.proofs.lemmas.List.{length-append}
+use Rattle.std.proofs.lemmas.{List.length-append, Option.{none-some, slice_get_within}}
 use Rattle.vecmap_base.specs.Pairs.{index_by, lookup_by}
 use Rattle.vecmap_base.proofs.IndexLemmas.{slice_get_last}
 use Rattle.vecmap_base.proofs.PairsLemmas.{AtIndices.{index_stays, match_at}, ByIndex.{index_by_appended, is_some_lookup_by}, Parts.lookup_by_append, Updates.{updates_appended_found, updates_matched, updates_written_at}}
@@ -19,9 +19,13 @@ module _ {K V : Type 0} (eq : K → K → Bool) (o : IsEquivalence eq) (test : K
   finds_match m i at =
       let some : is_some (lookup_by test m.entries) ≡ true = is_some_lookup_by test m.entries ∙ ap is_some at in
       let updates = updates_matched eq o test respects m.entries in
+      let place = match_at test m.entries i at in
       record {
-        at = match_at test m.entries i at;
+        found = at;
+        within = slice_get_within m.entries i (place.0, place.1) place.2;
+        at = place;
         unchanged = λ _. refl;
+        appended = λ absent. absurd (none-some i (sym absent ∙ at));
         value = λ v absent only. absurd (true≢false (sym some ∙ ap is_some absent));
         pair = λ p absent only. absurd (true≢false (sym some ∙ ap is_some absent));
         index = at ∙ ap (λ found. Some (unwrap_or found (length m.entries))) (sym at);
@@ -35,9 +39,13 @@ module _ {K V : Type 0} (eq : K → K → Bool) (o : IsEquivalence eq) (test : K
   pub appends_made : (old new : Contents K V) (p : K × V) (i : ℕ) → index_by test old.entries ≡ None → test p.0 ≡ true → made p → new.entries ≡ old.entries ++ p ∷ [] → index_by test new.entries ≡ Some i → FindsOrAppends eq test made old new i
   appends_made old new p i miss hit did e at =
       let updates = updates_appended_found eq o test respects old.entries new.entries p e miss hit in
+      let place = match_at test new.entries i at in
       record {
-        at = match_at test new.entries i at;
+        found = at;
+        within = slice_get_within new.entries i (place.0, place.1) place.2;
+        at = place;
         unchanged = grind (arith, appended);
+        appended = λ _. (p, did, e);
         value = grind (arith, appended);
         pair = grind (arith, appended);
         index = grind (arith, appended);

@@ -1,6 +1,6 @@
 -- What a contract sees of a `VecMap`, and what calls say of its capacity. In the examples, `map_of l n` is the map
 -- with the pairs `l` and the capacity `n`, and `done` and `failed` are results of calls.
-use Rattle.std.specs.Prelude.{◌≡◌, ◌++◌, ◌∷◌, [], ◌+◌, ◌<◌, ◌≤◌, ℕ, Bool, IsOk, IsSome, List, None, OnErr, OnOk, Option, Result, Some, if◌then◌else◌, is_some, length, slice_get, unwrap_or}
+use Rattle.std.specs.Prelude.{◌≡◌, ◌++◌, ◌∷◌, [], ◌+◌, ◌<◌, ◌≤◌, ◌⊎◌, ℕ, Bool, IsOk, IsSome, List, None, OnErr, OnOk, Option, Result, Some, if◌then◌else◌, is_some, length, slice_get, unwrap_or}
 use Rattle.std.specs.{List.refill, Map.set_value, Option.option_map_or}
 use Rattle.vecmap_base.specs.{declared.refused.Refused.Refused, Indices.HasMatchAt, Lookups.UpdatesBy, Pairs.{index_by, index_of, lookup_by, with_pair, with_value}}
 
@@ -105,11 +105,22 @@ module _ {K V : Type 0} where
   abbrev pub FailsToAppend : {E : Type 0} → (Refused (K × V) → E → Type 0) → (K × V → Type 0) → Contents K V → E → Type 0
   FailsToAppend becomes made old error = (pair : K × V) × made pair × IsFull old × becomes (record { given = pair }) error
 
+  -- Example: of a closure that fails with `AllocError`: the same map, and that error.
+  -- A pair was to be made and appended, and that failed: the map is unchanged, no key matched, and `made` or memory failed.
+  pub record FailsToInsert {E : Type 0} (becomes : Refused (K × V) → E → Type 0) (made : K × V → Type 0) (failed : E → Type 0) (index : Option ℕ) (old new : Contents K V) (error : E) : Type 0 where
+    pub unchanged : new ≡ old
+    pub absent : index ≡ None
+    pub cause : failed error ⊎ FailsToAppend becomes made old error
+
   -- Example: of the key 2 and a pair `(2,b)`: from `[(1,a)]` to `[(1,a), (2,b)]`.
   -- A key that the test matches was present, and nothing has changed, or a pair that was made was appended. It is at `i`.
   pub record FindsOrAppends (eq : K → K → Bool) (test : K → Bool) (made : K × V → Type 0) (old new : Contents K V) (i : ℕ) : Type 0 where
+    pub found : index_by test new.entries ≡ Some i
+    pub within : i < length new.entries
     pub at : HasMatchAt test new.entries i
+    -- What was present stays, and what is new is last.
     pub unchanged : IsSome (lookup_by test old.entries) → new ≡ old
+    pub appended : index_by test old.entries ≡ None → Appends made old new
     -- What a new key has if its value, or its pair, is known.
     pub value : (v : V) → lookup_by test old.entries ≡ None → ((pair : K × V) → made pair → pair.1 ≡ v) → lookup_by test new.entries ≡ Some v
     pub pair : (p : K × V) → lookup_by test old.entries ≡ None → ((pair : K × V) → made pair → pair ≡ p) → slice_get new.entries (length old.entries) ≡ Some p

@@ -1,7 +1,7 @@
 //! Insertion of one pair.
-ghost use Rattle.std.specs.Prelude.{◌≡◌, ◌^◌, ◌++◌, ◌∷◌, ◌<◌, ◌≤◌, ◌⊎◌, Err, IfErr, IfOk, IfSome, IsTrue, None, Ok, OnErr, OnOk, Some, [], length, vec_capacity};
+ghost use Rattle.std.specs.Prelude.{◌≡◌, ◌^◌, ◌++◌, ◌∷◌, ◌<◌, ◌≤◌, Err, IfErr, IfOk, IfSome, IsTrue, None, Ok, OnErr, OnOk, Some, [], length, vec_capacity};
 ghost use Rattle.vecmap_base.specs.{Indices.HasMatchAt, Insertions.{AddsKey, InsertsAt, PutsKey}, Pairs.{index_by, index_or_length, lookup, lookup_indexed}, Removals.FindsPair};
-ghost use Rattle.vecmap_map.specs.Contents.{Appends, FailsToAppend, FindsOrAppends, HasRoom, KeepsRoom, KeepsRoomAt, Refuses, RefusesAt};
+ghost use Rattle.vecmap_map.specs.Contents.{FailsToInsert, FindsOrAppends, HasRoom, KeepsRoom, KeepsRoomAt, Refuses, RefusesAt};
 
 use crate::VecMap;
 use std::alloc::AllocError;
@@ -267,24 +267,17 @@ impl<K, V> VecMap<K, V> {
         requires callable { index_by (Q.equivalent query) self.old.entries ≡ None → F.pre make }
         requires made { (pair : K × V) → F.post make (Ok pair)
             → IsTrue (Q.equivalent query pair.0) }
-        ensures index { IfOk result
-            (λ i. index_by (Q.equivalent query) self.new.entries ≡ Some i) }
-        ensures within { IfOk result (λ i. i < length self.new.entries) }
-        ensures found { IfOk result (FindsOrAppends K.eq (Q.equivalent query)
+        ensures insertion { IfOk result (FindsOrAppends K.eq (Q.equivalent query)
             (λ pair. F.post make (Ok pair)) self.old self.new) }
         ensures present { IfSome (index_by (Q.equivalent query) self.old.entries)
             (λ i. (result ≡ Ok i) × (self.new ≡ self.old)) }
-        ensures appended { OnOk result (index_by (Q.equivalent query) self.old.entries ≡ None
-            → Appends (λ pair. F.post make (Ok pair)) self.old self.new) }
-
         ensures capacity { KeepsRoomAt (index_by (Q.equivalent query) self.old.entries)
             self.old self.new }
 
         // On `Err` no key matches. Either `make` failed, or the map is full and memory ran out.
-        ensures absent { OnErr result (index_by (Q.equivalent query) self.old.entries ≡ None) }
-        ensures unchanged { OnErr result (self.new ≡ self.old) }
-        ensures err { IfErr result (λ error. F.post make (Err error) ⊎ FailsToAppend
-            E.from_gives (λ pair. F.post make (Ok pair)) self.old error) }
+        ensures err { IfErr result (FailsToInsert E.from_gives (λ pair. F.post make (Ok pair))
+            (λ error. F.post make (Err error)) (index_by (Q.equivalent query) self.old.entries)
+            self.old self.new) }
     {
         if let Some(index) = self.get_index_of(query) {
             return Ok(index);

@@ -1,6 +1,6 @@
 -- What a contract sees of a `VecSet`, and what calls say of its capacity. In the examples, `set_of l n` is the set
 -- with the elements `l` and the capacity `n`, and `done` and `failed` are results of calls.
-use Rattle.std.specs.Prelude.{◌≡◌, ◌++◌, ◌∷◌, [], ◌+◌, ◌<◌, ◌≤◌, ℕ, Bool, IsOk, IsSome, IsTrue, List, OnErr, OnOk, Option, Result, false, length}
+use Rattle.std.specs.Prelude.{◌≡◌, ◌++◌, ◌∷◌, [], ◌+◌, ◌<◌, ◌≤◌, ◌⊎◌, ℕ, Bool, IsOk, IsSome, IsTrue, List, None, OnErr, OnOk, Option, Result, false, length}
 use Rattle.std.specs.{List.IsDistinct, Set.is_member}
 use Rattle.vecmap_base.specs.declared.refused.Refused.{Refused}
 
@@ -39,11 +39,20 @@ module _ {T : Type 0} where
   abbrev pub Appends : (T → Type 0) → Contents T → Contents T → Type 0
   Appends made old new = (item : T) × made item × (new.elements ≡ old.elements ++ item ∷ [])
 
+  -- Example: of a made element on a full `[]` for `AllocError`: that error.
   -- The set is full, and a `Refused` with an element that was made became the error.
   abbrev pub FailsToAppend : {E : Type 0} → (Refused T → E → Type 0) → (T → Type 0) → Contents T → E → Type 0
   FailsToAppend becomes made old error = (item : T) × made item × IsFull old × becomes (record { given = item }) error
 
 module _ {T : Type 0} (eq : T → T → Bool) where
+  -- Example: of a closure that fails with `AllocError`: the same set, and that error.
+  -- An element was to be made and appended, and that failed: the set is unchanged, nothing matched, and `made` or memory failed.
+  pub record FailsToInsert {E : Type 0} (becomes : Refused T → E → Type 0) (made : T → Type 0) (failed : E → Type 0) (index : Option ℕ) (old new : Contents T) (error : E) : Type 0 where
+    pub unchanged : new ≡ old
+    pub distinct : IsDistinct eq new.elements
+    pub absent : index ≡ None
+    pub cause : failed error ⊎ FailsToAppend becomes made old error
+
   -- Example: `Reserves nat_eq 1 (set_of [1] 1) done (set_of [1] 2)`.
   -- Example: `¬ (Reserves nat_eq 1 (set_of [1] 1) done (set_of [] 2))`.
   -- Example: `¬ (Reserves nat_eq 1 (set_of [1] 1) done (set_of [1] 1))`.

@@ -1,10 +1,10 @@
 -- What the insertion of one element leaves of a set, one record for each kind of insertion. The first field is the whole
 -- list, and the others follow from it. `eq` is the `==` of the elements. In the examples, `1x` and `1y` are elements that
 -- `eq` calls equal, and are not the same.
-use Rattle.std.specs.Prelude.{◌≡◌, ◌++◌, ◌∷◌, ◌+◌, ◌||◌, Bool, IsTrue, List, [], None, Some, false, if◌then◌else◌, is_some, length, not, true}
+use Rattle.std.specs.Prelude.{◌≡◌, ◌++◌, ◌∷◌, ◌+◌, ◌||◌, ℕ, Bool, IsTrue, List, [], None, Some, false, if◌then◌else◌, is_some, length, not, position, true}
 use Rattle.std.specs.{List.{IsDistinct, list_any}, Set.is_member}
 use Rattle.vecmap_base.specs.{Items.{add, item_index, put_item, stored_item}, Lookups.UpdatesMember}
-use Rattle.vecmap_set.specs.{Indices.{KeepsItemIndices, KeepsMatchIndices}, Tests.AgreesOnEquals}
+use Rattle.vecmap_set.specs.{Contents.{Appends, Contents}, Indices.{FindsAt, KeepsItemIndices, KeepsMatchIndices}, Tests.AgreesOnEquals}
 
 module _ {T : Type 0} (eq : T → T → Bool) where
   -- Example: from `[1x]` to `[1x, 2x]` for `2x`.
@@ -43,3 +43,10 @@ module _ {T : Type 0} (eq : T → T → Bool) where
     pub updates : UpdatesMember eq test s r true
     pub len : length r ≡ length s + (if not (list_any test s) then 1 else 0)
     pub indices : KeepsMatchIndices s r
+
+  -- Example: of the query 2: from `[1]` to `[1, 2]`, at the index 1.
+  -- An element that the test matches was present, and nothing has changed, or one that was made was appended. It is at `i`.
+  pub record FindsOrAppends (test : T → Bool) (made : T → Type 0) (old new : Contents T) (i : ℕ) : Type 0 where
+    pub insertion : AddsItemBy test old.elements new.elements
+    pub at : FindsAt test new.elements i
+    pub appended : position test old.elements ≡ None → Appends made old new

@@ -1,8 +1,8 @@
 //! Insertion of one element.
-ghost use Rattle.std.specs.Prelude.{◌≡◌, ◌^◌, ◌++◌, ◌∷◌, ◌<◌, ◌≤◌, ◌||◌, ◌⊎◌, Bool, Err, IfErr, IfOk, IfSome, IsTrue, None, Ok, OnErr, OnOk, Some, [], false, length, not, position, slice_get, unwrap_or};
+ghost use Rattle.std.specs.Prelude.{◌≡◌, ◌^◌, ◌++◌, ◌∷◌, ◌<◌, ◌||◌, Bool, Err, IfErr, IfOk, IfSome, IsTrue, None, Ok, OnErr, OnOk, Some, [], false, length, not, position, slice_get, unwrap_or};
 ghost use Rattle.std.specs.{List.list_any, Set.is_member};
 ghost use Rattle.vecmap_base.specs.Items.{item_index, stored_item};
-ghost use Rattle.vecmap_set.specs.{Contents.{Appends, FailsToAppend, IsFull, KeepsRoom, KeepsRoomAt, Refuses, Reserves}, Indices.FindsAt, Insertions.{AddsItem, AddsItemBy, PutsItem}};
+ghost use Rattle.vecmap_set.specs.{Contents.{FailsToInsert, IsFull, KeepsRoom, KeepsRoomAt, Refuses, Reserves}, Indices.FindsAt, Insertions.{AddsItem, FindsOrAppends, PutsItem}};
 
 use crate::VecSet;
 use std::alloc::AllocError;
@@ -192,21 +192,17 @@ impl<T: Eq> VecSet<T> {
         F: Drop,
         requires callable { position (Q.equivalent query) self.old.elements ≡ None → F.pre make }
         requires made { (item : T) → F.post make (Ok item) → IsTrue (Q.equivalent query item) }
-        ensures found { IfOk result (FindsAt (Q.equivalent query) self.new.elements) }
-        ensures insertion { OnOk result (AddsItemBy T.eq (Q.equivalent query) self.old.elements
-            self.new.elements) }
+        ensures insertion { IfOk result (FindsOrAppends T.eq (Q.equivalent query)
+            (λ item. F.post make (Ok item)) self.old self.new) }
         ensures present { IfSome (position (Q.equivalent query) self.old.elements)
             (λ i. (result ≡ Ok i) × (self.new ≡ self.old)) }
-        ensures appended { OnOk result (position (Q.equivalent query) self.old.elements ≡ None
-            → Appends (λ item. F.post make (Ok item)) self.old self.new) }
         ensures capacity { KeepsRoomAt (position (Q.equivalent query) self.old.elements)
             self.old self.new }
 
         // On `Err` no element matches. Either `make` failed, or the set is full and memory ran out.
-        ensures absent { OnErr result (position (Q.equivalent query) self.old.elements ≡ None) }
-        ensures unchanged { OnErr result (self.new ≡ self.old) }
-        ensures err { IfErr result (λ error. F.post make (Err error) ⊎ FailsToAppend
-            E.from_gives (λ item. F.post make (Ok item)) self.old error) }
+        ensures err { IfErr result (FailsToInsert T.eq E.from_gives
+            (λ item. F.post make (Ok item)) (λ error. F.post make (Err error))
+            (position (Q.equivalent query) self.old.elements) self.old self.new) }
     {
         if let Some(index) = find_item_equivalent(&self.items, query) {
             return Ok(index);
