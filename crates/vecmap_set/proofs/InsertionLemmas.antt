@@ -1,12 +1,19 @@
 -- The records of insertions, from the list that is left.
 use Rattle.std.specs.{Cmp.IsEquivalence, List.{IsDistinct, list_any}, Map.IsKeyTest, Option.option_map_or, Set.is_member}
 use Rattle.std.proofs.Common.{◌≡◌, ◌∙◌, ◌++◌, ◌+◌, ℕ, Bool, true, false, List, [], ◌∷◌, None, Option, Some, IsTrue, ap, arith, if◌then◌else◌, inl, inr, is_some, length, length-append, not, position, refl, slice_set, subst, sym, true≢false}
-use Rattle.std.proofs.{lemmas.Bool.cases_Bool, lemmas.List.length-set}
+use Rattle.std.proofs.lemmas.{Bool.cases_Bool, List.Folds.list_any-append, List.length-set}
 use Rattle.vecmap_base.specs.{Items.{add, item_index, put_item}, Lookups.UpdatesMember}
-use Rattle.vecmap_base.proofs.{IndexLemmas.{list_any_position, list_any_stored, position_appended, position_none}, ItemsLemmas.Changes.members_of_put}
+use Rattle.vecmap_base.proofs.{IndexLemmas.{list_any_position, list_any_stored, position_appended, position_none, stored_last}, ItemsLemmas.Changes.members_of_put}
 use Rattle.vecmap_base.proofs.{ItemsLemmas.Additions.add_absent, ItemsLemmas.Members.{members_appended_by, members_matched}}
-use Rattle.vecmap_set.specs.Insertions.{AddsItem, AddsItemBy, PutsItem}
+use Rattle.vecmap_set.specs.Insertions.{AddsItem, AddsItemBy, AppendsItem, PutsItem}
 use Rattle.vecmap_set.proofs.{IndexLemmas.{indices_appended, indices_of_put, indices_stay}, QueryLemmas.any_of_add}
+
+pub appends_item : {T : Type 0} (s r : List T) (x : T) → r ≡ s ++ x ∷ [] → AppendsItem s x r
+appends_item s r x e = record {
+  elements = e;
+  any = λ f. ap (list_any f) e ∙ list_any-append f s (x ∷ []) ∙ grind (arith, cases_Bool);
+  at = stored_last s r x e;
+}
 
 module _ {T : Type 0} (eq : T → T → Bool) (o : IsEquivalence eq) (s r : List T) (d : IsDistinct eq r) (x : T) where
   module _ (test : T → Bool) (respects : IsKeyTest eq test) where

@@ -6,7 +6,24 @@ use Rattle.std.specs.{List.{IsDistinct, list_any}, Set.is_member}
 use Rattle.vecmap_base.specs.{Items.{add, item_index, put_item, stored_item}, Lookups.UpdatesMember}
 use Rattle.vecmap_set.specs.{Contents.{Appends, Contents}, Indices.{FindsAt, KeepsItemIndices, KeepsMatchIndices}, Tests.AgreesOnEquals}
 
+module _ {T : Type 0} where
+  -- Example: from `[1]` to `[1, 2]` for `2`.
+  -- The list `r` is the list `s` with the element `x` appended.
+  pub record AppendsItem (s : List T) (x : T) (r : List T) : Type 0 where
+    pub elements : r ≡ s ++ x ∷ []
+    -- For which tests an element passes, and where the new element is.
+    pub any : (f : T → Bool) → list_any f r ≡ (f x || list_any f s)
+    pub at : slice_get r (length s) ≡ Some x
+
 module _ {T : Type 0} (eq : T → T → Bool) where
+  -- Example: `TellsIfAdded nat_eq (set_of [1] 2) 2 (set_of [1, 2] 2) true`.
+  -- Example: `¬ (TellsIfAdded nat_eq (set_of [1] 2) 1 (set_of [1] 2) true)`.
+  -- Example: `¬ (TellsIfAdded nat_eq (set_of [1] 2) 1 (set_of [] 2) false)`.
+  -- The result of an insertion of `x` says whether `x` is new. If an equal element is present, nothing has changed.
+  pub record TellsIfAdded (old : Contents T) (x : T) (new : Contents T) (is_new : Bool) : Type 0 where
+    pub added : is_new ≡ not (is_member eq old.elements x)
+    pub unchanged : IsTrue (is_member eq old.elements x) → new ≡ old
+
   -- Example: from `[1x]` to `[1x, 2x]` for `2x`.
   -- The list `r` is the list `s` after an insertion of `x`: an equal element stays, and a new one is appended.
   pub record AddsItem (s : List T) (x : T) (r : List T) : Type 0 where

@@ -1,8 +1,8 @@
 //! Insertion of one element.
-ghost use Rattle.std.specs.Prelude.{◌≡◌, ◌^◌, ◌++◌, ◌∷◌, ◌<◌, ◌||◌, Bool, Err, IfErr, IfOk, IfSome, IsTrue, None, Ok, OnErr, OnOk, Some, [], false, length, not, position, slice_get, unwrap_or};
-ghost use Rattle.std.specs.{List.list_any, Set.is_member};
+ghost use Rattle.std.specs.Prelude.{◌≡◌, ◌^◌, ◌<◌, Err, IfErr, IfOk, IfSome, IsTrue, None, Ok, OnErr, OnOk, Some, false, length, position, unwrap_or};
+ghost use Rattle.std.specs.Set.{is_member};
 ghost use Rattle.vecmap_base.specs.Items.{item_index, stored_item};
-ghost use Rattle.vecmap_set.specs.{Contents.{FailsToInsert, IsFull, KeepsRoom, KeepsRoomAt, Refuses, Reserves}, Indices.FindsAt, Insertions.{AddsItem, FindsOrAppends, PutsItem}};
+ghost use Rattle.vecmap_set.specs.{Contents.{FailsToInsert, IsFull, KeepsRoom, KeepsRoomAt, Refuses, Reserves}, Indices.FindsAt, Insertions.{AddsItem, AppendsItem, FindsOrAppends, PutsItem, TellsIfAdded}};
 
 use crate::VecSet;
 use std::alloc::AllocError;
@@ -37,11 +37,8 @@ impl<T: Eq> VecSet<T> {
     where
         T: Drop,
         ensures insertion { OnOk result (AddsItem T.eq self.old.elements item self.new.elements) }
-        ensures returned { IfOk result
-            (λ added. added ≡ not (is_member T.eq self.old.elements item)) }
+        ensures returned { IfOk result (TellsIfAdded T.eq self.old item self.new) }
         ensures capacity { KeepsRoom T.eq self.old item self.new }
-        ensures unchanged { IsTrue (is_member T.eq self.old.elements item)
-            → self.new ≡ self.old }
         ensures given { IfErr result (λ refused. refused.given ≡ item) }
         ensures err { OnErr result (Refuses T.eq self.old item self.new) }
     {
@@ -69,13 +66,10 @@ impl<T: Eq> VecSet<T> {
         ensures insertion { OnOk result (AddsItem T.eq self.old.elements item self.new.elements) }
         ensures index { IfOk result (λ done. done.0
             ≡ unwrap_or (item_index T.eq self.old.elements item) (length self.old.elements)) }
-        ensures found { IfOk result (λ done. FindsAt (T.eq item) self.new.elements done.0) }
+        ensures at { IfOk result (λ done. FindsAt (T.eq item) self.new.elements done.0) }
         ensures countable { IfOk result (λ done. done.0 < 2 ^ 63) }
-        ensures returned { IfOk result
-            (λ done. done.1 ≡ not (is_member T.eq self.old.elements item)) }
+        ensures returned { IfOk result (λ done. TellsIfAdded T.eq self.old item self.new done.1) }
         ensures capacity { KeepsRoom T.eq self.old item self.new }
-        ensures unchanged { IsTrue (is_member T.eq self.old.elements item)
-            → self.new ≡ self.old }
         ensures given { IfErr result (λ refused. refused.given ≡ item) }
         ensures err { OnErr result (Refuses T.eq self.old item self.new) }
     {
@@ -138,12 +132,8 @@ impl<T: Eq> VecSet<T> {
     #[tactic(auto, using(crate::proofs::SetLemmas::distinct_changes, crate::proofs::IndexLemmas::stored_last))]
     pub fn insert_unique(&mut self, item: T) -> Result<(), Refused<T>>
         requires absent { is_member T.eq self.old.elements item ≡ false }
-        ensures list { OnOk result (self.new.elements ≡ self.old.elements ++ item ∷ []) }
+        ensures list { OnOk result (AppendsItem self.old.elements item self.new.elements) }
         ensures insertion { OnOk result (AddsItem T.eq self.old.elements item self.new.elements) }
-        ensures any { OnOk result ((f : T → Bool) → list_any f self.new.elements
-            ≡ (f item || list_any f self.old.elements)) }
-        ensures at { OnOk result (slice_get self.new.elements (length self.old.elements)
-            ≡ Some item) }
         ensures capacity { KeepsRoom T.eq self.old item self.new }
         ensures given { IfErr result (λ refused. refused.given ≡ item) }
         ensures err { OnErr result (Refuses T.eq self.old item self.new) }

@@ -29,7 +29,7 @@ returns-in-Ok-clause-insertion g c =
     let s = c.args.self.now.elements in
     let x = c.in_ok-item.item in
     let hit = c.requires.made _ c.in_ok-item.ensures in
-    let more = c.in-Ok.ensures.list in
+    let more = c.in-Ok.ensures.list.elements in
     let none : position test s ≡ None = search rules in
     let absent : list_any test s ≡ false = list_any_position test s ∙ ap is_some none in
     record {

@@ -4,16 +4,16 @@ use Rattle.vecmap_base.{specs.Items.item_index, proofs.IndexLemmas.{list_any_pos
 use Rattle.vecmap_set.proofs.{IndexLemmas.finds_at, InsertionLemmas.adds_item}
 use Rattle.vecmap_set.proofs.VecSet.insert_full.Goals as goal
 
-pub returns-in-Some-clause-found : goal.returns-in-Some-clause-found
-returns-in-Some-clause-found g c = finds_at (g.T.PartialEq.eq c.args.item) c.args.self.now.elements c.in-Some.index (search rules)
+pub returns-in-Some-clause-at : goal.returns-in-Some-clause-at
+returns-in-Some-clause-at g c = finds_at (g.T.PartialEq.eq c.args.item) c.args.self.now.elements c.in-Some.index (search rules)
 
 pub returns-in-Some-clause-insertion : goal.returns-in-Some-clause-insertion
 returns-in-Some-clause-insertion g c = adds_item g.T.PartialEq.eq g.met.T.Eq.laws c.args.self.now.elements _ (search rules) c.args.item (search (rules, list_any_position))
 
-pub returns-clause-found : goal.returns-clause-found
-returns-clause-found g c =
+pub returns-clause-at : goal.returns-clause-at
+returns-clause-at g c =
     let eq = g.T.PartialEq.eq in
     let s = c.args.self.now.elements in
     let none : item_index eq s c.args.item ≡ None = search rules in
-    finds_at (eq c.args.item) _ c.len-len.result (ap (λ l. item_index eq l c.args.item) c.in_ok-insert_unique.ensures.list
+    finds_at (eq c.args.item) _ c.len-len.result (ap (λ l. item_index eq l c.args.item) c.in_ok-insert_unique.ensures.list.elements
     ∙ position_appended (eq c.args.item) s c.args.item none (g.met.T.Eq.laws.refl c.args.item) ∙ ap (λ n. Some n) (sym c.len-len.ensures.count))
