@@ -5,6 +5,12 @@ use Rattle.vecmap_base.specs.Items.{IsReorderedItems, moved}
 use Rattle.vecmap_set.specs.Indices.{MovesItemIndex}
 
 module _ {T : Type 0} (eq : T → T → Bool) where
+  -- Example: from `[3, 1, 2]` to `[1, 2, 3]`.
+  -- The list `r` has the elements of the list `s`, in some order.
+  pub record ReordersItems (s r : List T) : Type 0 where
+    pub reordered : IsReorderedItems s r
+    pub distinct : IsDistinct eq r
+
   -- Example: from `[1, 2, 3]` to `[3, 2, 1]`.
   -- The list `r` is the list `s` in reverse order.
   pub record ReversesItems (s r : List T) : Type 0 where

@@ -1,8 +1,7 @@
 //! Reversing, moving, swapping and sorting the elements.
-ghost use Rattle.std.specs.{Prelude.{◌≡◌, ◌<◌, ◌≤◌, IsOk, OnErr, OnOk, length}, List.IsDistinct};
+ghost use Rattle.std.specs.Prelude.{◌≡◌, ◌<◌, ◌≤◌, IsOk, OnErr, OnOk, length};
 ghost use Rattle.std.specs.List.Sorted.{IsSorted, IsSortedByClosure, IsSortedByKeyClosure, IsStable, IsStableByClosure, IsStableByKeyClosure};
-ghost use Rattle.vecmap_base.specs.Items.{IsReorderedItems};
-ghost use Rattle.vecmap_set.specs.Reorders.{MovesItem, ReversesItems, SwapsItems};
+ghost use Rattle.vecmap_set.specs.Reorders.{MovesItem, ReordersItems, ReversesItems, SwapsItems};
 
 use crate::VecSet;
 use std::alloc::AllocError;
@@ -107,10 +106,9 @@ impl<T: Eq> VecSet<T> {
         T: Ord,
         ensures sorted { OnOk result (IsSorted T.cmp self.new.elements) }
         ensures stable { IsStable T.cmp self.old.elements self.new.elements }
-        ensures reordered { IsReorderedItems self.old.elements self.new.elements }
+        ensures reordered { ReordersItems T.eq self.old.elements self.new.elements }
         ensures err { OnErr result (self.new ≡ self.old) }
         ensures succeeds { length self.old.elements ≤ 20 → IsOk result }
-        ensures distinct { IsDistinct T.eq self.new.elements }
         ensures capacity { self.new.capacity ≡ self.old.capacity }
     {
         self.items.sort()
@@ -143,10 +141,9 @@ impl<T: Eq> VecSet<T> {
         requires { F.IsAlwaysCallable f }
         ensures sorted { OnOk result (IsSortedByClosure F.FnMut f self.new.elements) }
         ensures stable { IsStableByClosure F.FnMut f self.old.elements self.new.elements }
-        ensures reordered { IsReorderedItems self.old.elements self.new.elements }
+        ensures reordered { ReordersItems T.eq self.old.elements self.new.elements }
         ensures err { OnErr result (self.new ≡ self.old) }
         ensures succeeds { length self.old.elements ≤ 20 → IsOk result }
-        ensures distinct { IsDistinct T.eq self.new.elements }
         ensures capacity { self.new.capacity ≡ self.old.capacity }
     {
         self.items.sort_by(f)
@@ -182,10 +179,9 @@ impl<T: Eq> VecSet<T> {
         requires { F.IsAlwaysCallable f }
         ensures sorted { OnOk result (IsSortedByKeyClosure F.FnMut K.cmp f self.new.elements) }
         ensures stable { IsStableByKeyClosure F.FnMut K.cmp f self.old.elements self.new.elements }
-        ensures reordered { IsReorderedItems self.old.elements self.new.elements }
+        ensures reordered { ReordersItems T.eq self.old.elements self.new.elements }
         ensures err { OnErr result (self.new ≡ self.old) }
         ensures succeeds { length self.old.elements ≤ 1 → IsOk result }
-        ensures distinct { IsDistinct T.eq self.new.elements }
         ensures capacity { self.new.capacity ≡ self.old.capacity }
     {
         self.items.sort_by_cached_key(f)
@@ -208,8 +204,7 @@ impl<T: Eq> VecSet<T> {
     where
         T: Ord,
         ensures sorted { IsSorted T.cmp self.new.elements }
-        ensures reordered { IsReorderedItems self.old.elements self.new.elements }
-        ensures distinct { IsDistinct T.eq self.new.elements }
+        ensures reordered { ReordersItems T.eq self.old.elements self.new.elements }
         ensures capacity { self.new.capacity ≡ self.old.capacity }
     {
         self.items.sort_unstable();
@@ -237,8 +232,7 @@ impl<T: Eq> VecSet<T> {
     pub fn sort_unstable_by<F: Fn(&T, &T) -> Ordering>(&mut self, f: F)
         requires { F.IsAlwaysCallable f }
         ensures sorted { IsSortedByClosure F.FnMut f self.new.elements }
-        ensures reordered { IsReorderedItems self.old.elements self.new.elements }
-        ensures distinct { IsDistinct T.eq self.new.elements }
+        ensures reordered { ReordersItems T.eq self.old.elements self.new.elements }
         ensures capacity { self.new.capacity ≡ self.old.capacity }
     {
         self.items.sort_unstable_by(f);

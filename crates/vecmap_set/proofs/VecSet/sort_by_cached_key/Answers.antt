@@ -5,8 +5,5 @@ use Rattle.vecmap_set.proofs.VecSet.sort_by_cached_key.Goals as goal
 pub invariant_of-self : goal.invariant_of-self
 invariant_of-self g c = distinct_rearranged _ g.met.T.Eq.laws c.self.inside.items.items _ (search rules) c.self.invariant
 
-pub returns-clause-distinct : goal.returns-clause-distinct
-returns-clause-distinct g c = invariant_of-self g c
-
 pub returns-clause-reordered : goal.returns-clause-reordered
-returns-clause-reordered g c = rw (← c.self.view_is) (items_reordered _ _ c.sort_by_cached_key.ensures.permutation)
+returns-clause-reordered g c = record { reordered = rw (← c.self.view_is) (items_reordered _ _ c.sort_by_cached_key.ensures.permutation); distinct = invariant_of-self g c }
