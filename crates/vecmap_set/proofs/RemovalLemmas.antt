@@ -3,7 +3,7 @@ use Rattle.std.specs.{Cmp.IsEquivalence, List.IsDistinct, List.list_any, List.So
 use Rattle.std.proofs.Common.{◌≡◌, ◌∙◌, ◌&&◌, ◌-◌, ◌++◌, ◌<◌, ◌≤◌, ◌||◌, ℕ, Bool, IsTrue, List, None, Option, Some, IfSome, ◌∷◌, ap, arith, drop, inl, inr, is_some, length, length-append, position, remove, slice_get, sym, subst, take}
 use Rattle.std.proofs.{lemmas.List.{length-take, length-take-le, take-append-drop}, lemmas.List.Sorted.list_any-IsPermutation, lemmas.Map.Keys.IsDistinct-tail, lemmas.Option.same_Some}
 use Rattle.vecmap_base.specs.{Items.{stored_first, swap_without, swap_without_first, without_first}, Kept.Kept}
-use Rattle.vecmap_base.proofs.{DistinctLemmas.{Order.distinct_rearranged, Removals.{distinct_drop, distinct_take}}, PairsLemmas.Retained.{filter_kept, length_kept}}
+use Rattle.vecmap_base.proofs.{DistinctLemmas.{Order.distinct_rearranged, Removals.{distinct_drop, distinct_kept, distinct_take}}, PairsLemmas.Retained.{filter_kept, length_kept}}
 use Rattle.vecmap_base.proofs.IndexLemmas.{list_any_stored, position_before, position_none}
 use Rattle.vecmap_base.proofs.ItemsLemmas.{Additions.adds_apart, Changes.{matches_of_front, matches_of_parts, members_popped}, Filtered.any_filtered, Members.{members_of_first, members_removed}}
 use Rattle.vecmap_base.proofs.TakenLemmas.{TakesAt, TakesFirst, first_by_shift, first_by_swap, last_read, len_of_first, len_popped, one_less, taken_by_shift, taken_by_swap}
@@ -16,19 +16,22 @@ module _ {T : Type 0} where
   pub finds_item : (test : T → Bool) (s : List T) (r : Option T) → r ≡ stored_first test s → FindsItem test s r
   finds_item test s r e = record { element = e; found = ap is_some e ∙ sym (list_any_stored test s); matched = stored_matches test s r e }
 
-  pub keeps_front_items : (n : ℕ) (s r : List T) → r ≡ take n s → KeepsFrontItems n s r
-  keeps_front_items n s r e = record {
+module _ {T : Type 0} (eq : T → T → Bool) where
+  pub keeps_front_items : (n : ℕ) (s r : List T) → IsDistinct eq s → r ≡ take n s → KeepsFrontItems eq n s r
+  keeps_front_items n s r d e = record {
     elements = e;
+    distinct = subst (IsDistinct eq) (sym e) (distinct_take eq n s d);
     matches = λ test. matches_of_front test n s r e;
     present = present_in_front s r n e;
     len = ap length e ∙ length-take n s;
     indices = indices_of_front s r n e;
   }
 
-  pub retains_items : {F : Type 0} (R : F → T → Bool → T → F → Type 0) → ((f : F) (x : T) (b : Bool) (y : T) (g : F) → R f x b y g → y ≡ x) → (f : F) (s r : List T) → ((g : F) × Kept R f s r g) → RetainsItems R f s r
-  retains_items R same f s r calls = record {
+  pub retains_items : {F : Type 0} (R : F → T → Bool → T → F → Type 0) → ((f : F) (x : T) (b : Bool) (y : T) (g : F) → R f x b y g → y ≡ x) → (f : F) (s r : List T) → IsDistinct eq s → ((g : F) × Kept R f s r g) → RetainsItems eq R f s r
+  retains_items R same f s r d calls = record {
     calls = calls;
     filters = λ keep told. filter_kept R keep f calls.0 s r told calls.1;
+    distinct = distinct_kept eq R (λ f g x y b call. same f x b y g call) f calls.0 s r calls.1 d;
     matches = λ query kept told. any_filtered R same query kept f calls.0 s r told calls.1;
     len = length_kept R f calls.0 s r calls.1;
   }
@@ -88,7 +91,7 @@ module _ {T : Type 0} (eq : T → T → Bool) (o : IsEquivalence eq) where
     pub removes_last_item : (last : Option T) → r ≡ take (length s - 1) s → s ≡ r ++ option_to_list last → RemovesLastItem eq s last r
     removes_last_item last front parts = record {
       element = last_read s r last front parts;
-      front = keeps_front_items (length s - 1) s r front;
+      front = keeps_front_items eq (length s - 1) s r d front;
       distinct = subst (IsDistinct eq) (sym front) (distinct_take eq (length s - 1) s d);
       updates = members_popped eq o s r last parts d;
       len = len_popped s r last parts;
@@ -98,7 +101,7 @@ module _ {T : Type 0} (eq : T → T → Bool) (o : IsEquivalence eq) where
     splits_items n rest within front part =
         let whole : r ++ rest ≡ s = (λ i. front i ++ part i) ∙ take-append-drop n s in
         record {
-          front = keeps_front_items n s r front;
+          front = keeps_front_items eq n s r d front;
           part = part;
           part_distinct = subst (IsDistinct eq) (sym part) (distinct_drop eq n s d);
           part_matches = λ test. matches_of_parts test n s r rest front part;

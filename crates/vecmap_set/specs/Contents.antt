@@ -45,6 +45,12 @@ module _ {T : Type 0} where
   FailsToAppend becomes made old error = (item : T) × made item × IsFull old × becomes (record { given = item }) error
 
 module _ {T : Type 0} (eq : T → T → Bool) where
+  -- Example: `Stays nat_eq (set_of [1] 2) (set_of [1] 2)`; `¬ (Stays nat_eq (set_of [1] 2) (set_of [1] 4))`.
+  -- The set is unchanged, also its capacity.
+  pub record Stays (old new : Contents T) : Type 0 where
+    pub unchanged : new ≡ old
+    pub distinct : IsDistinct eq new.elements
+
   -- Example: of a closure that fails with `AllocError`: the same set, and that error.
   -- An element was to be made and appended, and that failed: the set is unchanged, nothing matched, and `made` or memory failed.
   pub record FailsToInsert {E : Type 0} (becomes : Refused T → E → Type 0) (made : T → Type 0) (failed : E → Type 0) (index : Option ℕ) (old new : Contents T) (error : E) : Type 0 where

@@ -18,10 +18,12 @@ module _ {T : Type 0} where
   abbrev pub Takes : T → List T → List T → Type 0
   Takes x s r = (f : T → Bool) → list_any f s ≡ (f x || list_any f r)
 
+module _ {T : Type 0} (eq : T → T → Bool) where
   -- Example: from `[1, 2, 3]` to `[1, 2]` for the length 2.
   -- The list `r` has the first `n` elements of the list `s`.
   pub record KeepsFrontItems (n : ℕ) (s r : List T) : Type 0 where
     pub elements : r ≡ take n s
+    pub distinct : IsDistinct eq r
     -- What queries find, by the index of the match.
     pub matches : (test : T → Bool) → list_any test r ≡ (list_any test s && nat_lt (unwrap_or (position test s) 0) n)
     pub present : (test : T → Bool) (i : ℕ) → position test s ≡ Some i → i < n → list_any test r ≡ true
@@ -34,11 +36,11 @@ module _ {T : Type 0} where
   pub record RetainsItems {F : Type 0} (R : F → T → Bool → T → F → Type 0) (f : F) (s r : List T) : Type 0 where
     pub calls : (g : F) × Kept R f s r g
     pub filters : (keep : T → Bool) → TestsItems R f keep → r ≡ filter keep s
+    pub distinct : IsDistinct eq r
     -- What queries find whose matches the closure keeps or not, and how many elements there are.
     pub matches : (query : T → Bool) (kept : Bool) → ReturnsAt R f query kept → list_any query r ≡ (list_any query s && kept)
     pub len : length r ≤ length s
 
-module _ {T : Type 0} (eq : T → T → Bool) where
   -- Example: from `[1, 2, 3]` to `[2, 3]` for the query 1 and `without_first`.
   -- The list `r` is the list `s` without the element that passes the test, and with the others as `without` says.
   pub record RemovesItemBy (without : (T → Bool) → List T → List T) (test : T → Bool) (s r : List T) : Type 0 where

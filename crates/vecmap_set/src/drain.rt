@@ -57,14 +57,14 @@ impl<T: Eq> VecSet<T> {
         ensures kept { drain_kept result
             ≡ without_between self.old.elements (R.start_bound range) (R.end_bound range) }
         ensures front { end_index (R.end_bound range) (length self.old.elements)
-            ≡ length self.old.elements → KeepsFrontItems (start_index (R.start_bound range))
+            ≡ length self.old.elements → KeepsFrontItems T.eq (start_index (R.start_bound range))
             self.old.elements (drain_kept result) }
         ensures capacity { drain_capacity result ≡ self.old.capacity }
         ensures lender { drain_lender result ≡ self.entry.ghost_name }
         ensures keeps { KeepsAlong DrainNext DrainKeeps result }
         ensures keeps_back { KeepsAlong DrainNextBack DrainKeeps result }
     {
-        let range = slice::range(range, ..self.len());
+        let range = slice::range(range, ..self.items.len());
         Drain::over(self, range.start, range.end)
     }
 }

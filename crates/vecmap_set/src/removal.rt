@@ -1,7 +1,8 @@
 //! Removal of elements.
-ghost use Rattle.std.specs.Prelude.{◌≡◌, ◌-◌, ◌<◌, ◌≤◌, IfNone, IfOk, IfSome, IsOk, OnErr, String, [], false, length, remove, string_eq};
+ghost use Rattle.std.specs.Prelude.{◌≡◌, ◌-◌, ◌<◌, ◌≤◌, Bool, IfNone, IfOk, IfSome, IsOk, OnErr, String, [], false, length, remove, string_eq, true};
 ghost use Rattle.std.specs.{Fn.TakesAt, List.{IsDistinct, list_any}};
-ghost use Rattle.vecmap_base.specs.{Asked.{CallableOnEach, CallsAtItem}, Items.{swap_without, swap_without_first, without_first}, Pairs.has_text};
+ghost use Rattle.vecmap_base.specs.{Asked.{CallableOnEach, CallsAtItem}, Kept.ReturnsAt, Items.{swap_without, swap_without_first, without_first}, Pairs.has_text};
+ghost use Rattle.vecmap_set.specs.Contents.{Stays};
 ghost use Rattle.vecmap_set.specs.Indices.{MovesItemIndex, ShiftsItems};
 ghost use Rattle.vecmap_set.specs.Removals.{FindsItem, KeepsFrontItems, RemovesItemAt, RemovesItemBy, RemovesLastItem, RetainsItems, SplitsItems, Takes};
 
@@ -41,12 +42,11 @@ impl<T: Eq> VecSet<T> {
     /// set.truncate(1);
     /// set.as_slice() // [1]
     /// ```
-    #[tactic(auto, using(vecmap_base::proofs::DistinctLemmas::Removals::distinct_take, crate::proofs::RemovalLemmas::keeps_front_items))]
+    #[tactic(auto, using(vecmap_base::proofs::DistinctLemmas::Removals::distinct_take))]
     pub fn truncate(&mut self, len: usize)
     where
         T: Drop,
-        ensures front { KeepsFrontItems len self.old.elements self.new.elements }
-        ensures distinct { IsDistinct T.eq self.new.elements }
+        ensures front { KeepsFrontItems T.eq len self.old.elements self.new.elements }
         ensures capacity { self.new.capacity ≡ self.old.capacity }
     {
         self.items.truncate(len);
@@ -83,10 +83,9 @@ impl<T: Eq> VecSet<T> {
         requires within { at ≤ length self.old.elements }
         ensures split { IfOk result (λ part. SplitsItems T.eq at self.old.elements
             self.new.elements part.elements) }
-        ensures distinct { IsDistinct T.eq self.new.elements }
         ensures capacity { self.new.capacity ≡ self.old.capacity }
         ensures succeeds { at ≡ length self.old.elements → IsOk result }
-        ensures err { OnErr result (self.new ≡ self.old) }
+        ensures err { OnErr result (Stays T.eq self.old self.new) }
     {
         Ok(VecSet {
             items: self.items.split_off(at)?,
@@ -122,9 +121,14 @@ impl<T: Eq> VecSet<T> {
         F: Drop,
         requires callable { CallableOnEach (CallsAtItem F.FnMut)
             (TakesAt F.FnMut) f self.old.elements }
-        ensures selection { RetainsItems (CallsAtItem F.FnMut) f self.old.elements
+        ensures selection { RetainsItems T.eq (CallsAtItem F.FnMut) f self.old.elements
             self.new.elements }
-        ensures distinct { IsDistinct T.eq self.new.elements }
+
+        // What a query finds, if `f` returns the same for all elements that it matches.
+        ensures stays { (test : T → Bool) → ReturnsAt (CallsAtItem F.FnMut) f test true
+            → list_any test self.new.elements ≡ list_any test self.old.elements }
+        ensures gone { (test : T → Bool) → ReturnsAt (CallsAtItem F.FnMut) f test false
+            → list_any test self.new.elements ≡ false }
         ensures capacity { self.new.capacity ≡ self.old.capacity }
     {
         retain_items(&mut self.items, f);

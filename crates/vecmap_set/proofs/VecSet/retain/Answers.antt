@@ -1,3 +1,4 @@
+use Rattle.std.proofs.{Common.arith, lemmas.Grind.common_steps}
 use Rattle.vecmap_base.{specs.Asked.CallsAtItem, proofs.DistinctLemmas.Removals.distinct_kept}
 use Rattle.vecmap_set.proofs.RemovalLemmas.{retains_items}
 use Rattle.vecmap_set.proofs.VecSet.retain.Goals as goal
@@ -7,8 +8,12 @@ invariant_of-self g c =
     let kept = c.retain_items.ensures.retained in
     distinct_kept _ (CallsAtItem g.F.FnMut) (λ f h x y b call. call.1) c.args.f kept.0 _ _ kept.1 c.self.invariant
 
-pub returns-clause-distinct : goal.returns-clause-distinct
-returns-clause-distinct g c = invariant_of-self g c
-
 pub returns-clause-selection : goal.returns-clause-selection
-returns-clause-selection g c = rw (← c.self.view_is) (retains_items (CallsAtItem g.F.FnMut) (λ f x b y h call. call.1) c.args.f _ _ c.retain_items.ensures.retained)
+returns-clause-selection g c =
+    rw (← c.self.view_is) (retains_items g.T.PartialEq.eq (CallsAtItem g.F.FnMut) (λ f x b y h call. call.1) c.args.f _ _ c.self.invariant c.retain_items.ensures.retained)
+
+pub returns-clause-stays : goal.returns-clause-stays
+returns-clause-stays g c test told = let fact = (returns-clause-selection g c).matches test true told in grind (arith, common_steps, fact)
+
+pub returns-clause-gone : goal.returns-clause-gone
+returns-clause-gone g c test told = let fact = (returns-clause-selection g c).matches test false told in grind (arith, common_steps, fact)
