@@ -32,22 +32,23 @@ module _ {T : Type 0} (eq : T → T → Bool) (o : IsEquivalence eq) where
   added_some [] (x ∷ xs) h = let more = appended (x ∷ []) xs in omega (arith, ap length more.1 ∙ length-append (x ∷ []) more.0)
   added_some (y ∷ s) xs h = let more = appended (y ∷ s) xs in omega (arith, ap length more.1 ∙ length-append (y ∷ s) more.0)
 
-  pub adds_items : (s xs r : List T) → r ≡ adds eq s xs → AddsItems eq s xs r
-  adds_items s xs r e =
+  pub adds_items : (s xs r : List T) → IsDistinct eq s → r ≡ adds eq s xs → AddsItems eq s xs r
+  adds_items s xs r d e =
       let more = appended s xs in
       let long : length r ≡ length s + length more.0 = ap length e ∙ ap length more.1 ∙ length-append s more.0 in
       record {
         elements = e;
+        distinct = subst (IsDistinct eq) (sym e) (distinct_adds eq o s xs d);
         members = λ q. ap (λ l. is_member eq l q) e ∙ is_member_adds eq o s xs q;
         len = (omega (arith, long), omega (arith, long, more.2));
         not_empty = λ h. subst (λ l. 0 < length l) (sym e) (added_some s xs h);
         indices = indices_appended s r more.0 (e ∙ more.1);
-        as_given = λ d. e ∙ adds_apart eq o s xs d;
+        as_given = λ apart. e ∙ adds_apart eq o s xs apart;
       }
 
   pub joins_items : (s xs r : List T) → IsDistinct eq s → IsDistinct eq xs → r ≡ adds eq s xs → JoinsItems eq s xs r
   joins_items s xs r d k e =
-      let added = adds_items s xs r e in
+      let added = adds_items s xs r d e in
       record {
         added = added;
         enough = length-le_from_is_member o xs r k (λ q h. added.members q ∙ or_right (is_member eq s q) (is_member eq xs q) h);
@@ -57,10 +58,10 @@ module _ {T : Type 0} (eq : T → T → Bool) (o : IsEquivalence eq) where
   module _ (C : T → T → Type 0) where
     pub adds_clones : (xs ys r : List T) → AreClones C xs ys → r ≡ adds eq [] ys → AddsClones eq C xs r
     adds_clones xs ys r clones e =
-        let added = adds_items [] ys r e in
+        let added = adds_items [] ys r (distinct_none eq) e in
         record {
           elements = (ys, clones, e);
-          distinct = subst (IsDistinct eq) (sym e) (distinct_adds eq o [] ys (distinct_none eq));
+          distinct = added.distinct;
           members = λ same q. added.members q ∙ is_member_clones eq o C xs ys same clones q;
           len = omega (arith, added.len.1, length_of_clones C xs ys clones);
         }

@@ -45,6 +45,12 @@ module _ {T : Type 0} where
   FailsToAppend becomes made old error = (item : T) × made item × IsFull old × becomes (record { given = item }) error
 
 module _ {T : Type 0} (eq : T → T → Bool) where
+  -- Example: `Empties nat_eq (set_of [1] 2) (set_of [] 2)`; `¬ (Empties nat_eq (set_of [1] 2) (set_of [] 0))`.
+  -- The set is empty, with its old capacity.
+  pub record Empties (old new : Contents T) : Type 0 where
+    pub emptied : new ≡ with_elements old []
+    pub distinct : IsDistinct eq new.elements
+
   -- Example: `Stays nat_eq (set_of [1] 2) (set_of [1] 2)`; `¬ (Stays nat_eq (set_of [1] 2) (set_of [1] 4))`.
   -- The set is unchanged, also its capacity.
   pub record Stays (old new : Contents T) : Type 0 where

@@ -1,24 +1,27 @@
 -- What the calls that add or copy many elements at once leave. The field on the whole list comes first, and the others
 -- follow from it. `eq` is the `==` of the elements. In the examples, `1x` and `1y` are elements that `eq` calls equal, and
 -- are not the same.
-use Rattle.std.specs.Prelude.{◌≡◌, ◌+◌, ◌++◌, ◌<◌, ◌≤◌, ◌||◌, Bool, Contains, IsTrue, List, OnErr, Option, Result, [], length, map}
+use Rattle.std.specs.Prelude.{◌≡◌, ◌+◌, ◌++◌, ◌<◌, ◌≤◌, ◌||◌, Bool, Contains, IsTrue, List, OnErr, OnOk, Option, Result, [], length, map}
 use Rattle.std.specs.{Iterator.Count, List.IsDistinct, Set.is_member}
 use Rattle.vecmap_base.specs.{Bulk.{HasRoomForAll, StopsAt}, Clones.AreClones, Equality.has_same_items, Items.{adds, both}}
 use Rattle.vecmap_set.specs.{Contents.{Contents, HasRoom, Refuses}, Indices.KeepsMatchIndices}
 
 module _ {T U S A E : Type 0} (becomes : U → S → Type 0) (steps : S → Option A → S → Type 0) (left : S → Count) where
   -- Example: of `2` on a full `[1]`, if allocation fails: the same set.
-  -- The capacity after a call that adds the items of `iter`, and what the call leaves on `Err`.
-  pub record Extends (refuses : Contents T → Contents T → List A → A → Type 0) (iter : U) (old : Contents T) (result : Result (Unit {0}) E) (new : Contents T) : Type 0 where
+  -- The capacity after a call that adds the items of `iter`, what the call leaves on `Err`, and where the old elements are.
+  pub record Extends (eq : T → T → Bool) (refuses : Contents T → Contents T → List A → A → Type 0) (iter : U) (old : Contents T) (result : Result (Unit {0}) E) (new : Contents T) : Type 0 where
     pub capacity : old.capacity ≤ new.capacity
     pub capacity_stays : HasRoomForAll becomes left iter (HasRoom old) → new.capacity ≡ old.capacity
     pub err : OnErr result (StopsAt becomes steps iter (refuses old new))
+    pub distinct : IsDistinct eq new.elements
+    pub indices : OnOk result (KeepsMatchIndices old.elements new.elements)
 
 module _ {T : Type 0} (eq : T → T → Bool) where
   -- Example: from `[1x]` to `[1x, 2x]` for `[1y, 2x]`.
   -- The list `r` is the list `s` after insertions of all of `xs`, in order: an equal element stays, and a new one is appended.
   pub record AddsItems (s xs r : List T) : Type 0 where
     pub elements : r ≡ adds eq s xs
+    pub distinct : IsDistinct eq r
     -- Which elements are present, how many there are, and where the old ones are.
     pub members : (q : T) → is_member eq r q ≡ (is_member eq s q || is_member eq xs q)
     pub len : (length s ≤ length r) × (length r ≤ length s + length xs)

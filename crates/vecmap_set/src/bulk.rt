@@ -2,7 +2,7 @@
 ghost use Rattle.std.specs.Prelude.{◌≡◌, ◌<◌, ◌≤◌, IfOk, IsOk, List, OnErr, OnOk, [], length, map};
 ghost use Rattle.std.specs.{Iterator.{Drains, ExtendsWithItems, IsFiniteIterable}, Iterator.Runs.WholeRun, List.IsDistinct, Map.Iter.deref};
 ghost use Rattle.vecmap_base.specs.{Bulk.HasRoomForAll, Items.adds};
-ghost use Rattle.vecmap_set.specs.{Contents.{HasRoom, with_elements}, Indices.KeepsMatchIndices};
+ghost use Rattle.vecmap_set.specs.Contents.{Empties, HasRoom, Stays};
 ghost use Rattle.vecmap_set.specs.SetBulk.{Adds, AddsClones, AddsCopies, AddsItems, Extends, JoinsItems, RefusesAfter, RefusesCopiesAfter};
 
 use crate::VecSet;
@@ -106,16 +106,14 @@ impl<T: Eq> VecSet<T> {
         T: Drop,
         ensures insertion { OnOk result (JoinsItems T.eq self.old.elements other.old.elements
             self.new.elements) }
-        ensures distinct { IsDistinct T.eq self.new.elements }
-        ensures emptied { OnOk result (other.new ≡ with_elements other.old []) }
-        ensures other_distinct { IsDistinct T.eq other.new.elements }
+        ensures emptied { OnOk result (Empties T.eq other.old other.new) }
         ensures capacity { self.old.capacity ≤ self.new.capacity }
         ensures succeeds { HasRoom self.old (length other.old.elements) → IsOk result }
         ensures capacity_stays { HasRoom self.old (length other.old.elements)
             → self.new.capacity ≡ self.old.capacity }
         ensures not_empty { OnErr result (0 < length other.old.elements) }
-        ensures err { OnErr result (self.new ≡ self.old) }
-        ensures other_err { OnErr result (other.new ≡ other.old) }
+        ensures err { OnErr result (Stays T.eq self.old self.new) }
+        ensures other_err { OnErr result (Stays T.eq other.old other.new) }
     {
         self.reserve(other.len())?;
         for item in other.items.drain(..) {
@@ -157,15 +155,13 @@ impl<T: Eq> VecSet<T> {
             iter }
         ensures ran { ExtendsWithItems I.into_iter_gives I.IntoIter.next_gives
             (Adds T.eq) iter self.old self.new result }
-        ensures runs { OnOk result ((it : I.IntoIter) × I.into_iter_gives iter it
-            × WholeRun I.IntoIter.next_gives it (λ p. AddsItems T.eq self.old.elements p.items
-            self.new.elements)) }
-        ensures distinct { IsDistinct T.eq self.new.elements }
         ensures succeeds { HasRoomForAll I.into_iter_gives I.IntoIter.remaining iter
             (HasRoom self.old) → IsOk result }
         ensures extended { Extends I.into_iter_gives I.IntoIter.next_gives I.IntoIter.remaining
-            (RefusesAfter T.eq) iter self.old result self.new }
-        ensures indices { OnOk result (KeepsMatchIndices self.old.elements self.new.elements) }
+            T.eq (RefusesAfter T.eq) iter self.old result self.new }
+        ensures runs { OnOk result ((it : I.IntoIter) × I.into_iter_gives iter it
+            × WholeRun I.IntoIter.next_gives it (λ p. AddsItems T.eq self.old.elements p.items
+            self.new.elements)) }
     {
         // A proof knows the invariant only once a field is used, and the loop needs it at its start.
         let _ = &self.items;
@@ -196,15 +192,13 @@ impl<T: Eq> VecSet<T> {
             iter }
         ensures ran { ExtendsWithItems I.into_iter_gives I.IntoIter.next_gives
             (AddsCopies T.eq deref) iter self.old self.new result }
-        ensures runs { OnOk result ((it : I.IntoIter) × I.into_iter_gives iter it
-            × WholeRun I.IntoIter.next_gives it (λ p. AddsItems T.eq self.old.elements
-            (map deref p.items) self.new.elements)) }
-        ensures distinct { IsDistinct T.eq self.new.elements }
         ensures succeeds { HasRoomForAll I.into_iter_gives I.IntoIter.remaining iter
             (HasRoom self.old) → IsOk result }
         ensures extended { Extends I.into_iter_gives I.IntoIter.next_gives I.IntoIter.remaining
-            (RefusesCopiesAfter T.eq deref) iter self.old result self.new }
-        ensures indices { OnOk result (KeepsMatchIndices self.old.elements self.new.elements) }
+            T.eq (RefusesCopiesAfter T.eq deref) iter self.old result self.new }
+        ensures runs { OnOk result ((it : I.IntoIter) × I.into_iter_gives iter it
+            × WholeRun I.IntoIter.next_gives it (λ p. AddsItems T.eq self.old.elements
+            (map deref p.items) self.new.elements)) }
     {
         // As in `extend`.
         let _ = &self.items;

@@ -1,5 +1,5 @@
 //! Conversions of a vector into a set, which keep the vector, and of an array; clones of the elements in a new vector.
-ghost use Rattle.std.specs.{Prelude.{◌≡◌, ◌≤◌, IfOk, [], vec_capacity}, List.IsDistinct};
+ghost use Rattle.std.specs.{Prelude.{◌≡◌, ◌≤◌, IfOk, [], length, vec_capacity}, List.IsDistinct};
 ghost use Rattle.vecmap_base.specs.{Clones.AreClones, Comparisons.comparisons};
 ghost use Rattle.vecmap_set.specs.SetBulk.{AddsItems};
 
@@ -52,7 +52,6 @@ impl<T: Eq> VecSet<T> {
     where
         T: Drop,
         ensures insertion { AddsItems T.eq [] items.items result.0.elements }
-        ensures distinct { IsDistinct T.eq result.0.elements }
         ensures capacity { result.0.capacity ≡ vec_capacity items }
         ensures counted { result.1 ≡ comparisons T.eq items.items }
     {
@@ -83,8 +82,8 @@ impl<T: Eq> VecSet<T> {
     where
         T: Drop,
         ensures insertion { IfOk result (λ set. AddsItems T.eq [] items set.elements) }
-        ensures distinct { IfOk result (λ set. IsDistinct T.eq set.elements) }
         ensures at_least { IfOk result (λ set. N ≤ set.capacity) }
+        ensures len { IfOk result (λ set. length set.elements ≤ N) }
     {
         Ok(VecSet::from(Vec::from_array(alloc, items)?))
     }

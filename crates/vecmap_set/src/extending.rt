@@ -30,7 +30,7 @@ impl<T: Eq + Drop> Extend<T> for VecSet<T> {
         ensures succeeds { HasRoomForAll I.into_iter_gives I.IntoIter.remaining iter
             (HasRoom self.old) → IsOk result }
         ensures extended { Extends I.into_iter_gives I.IntoIter.next_gives I.IntoIter.remaining
-            (RefusesAfter T.eq) iter self.old result self.new }
+            T.eq (RefusesAfter T.eq) iter self.old result self.new }
     {
         VecSet::extend(self, iter)
     }
@@ -56,7 +56,7 @@ impl<'a, T: Eq + Copy + 'a> Extend<&'a T> for VecSet<T> {
         ensures succeeds { HasRoomForAll I.into_iter_gives I.IntoIter.remaining iter
             (HasRoom self.old) → IsOk result }
         ensures extended { Extends I.into_iter_gives I.IntoIter.next_gives I.IntoIter.remaining
-            (RefusesCopiesAfter T.eq deref) iter self.old result self.new }
+            T.eq (RefusesCopiesAfter T.eq deref) iter self.old result self.new }
     {
         self.extend_copied(iter)
     }
