@@ -112,6 +112,7 @@ impl<K, V> VecMap<K, V> {
         K: Eq,
         requires distinct { HasDistinctKeys K.eq pairs.items }
         ensures list { result.entries ≡ pairs.items }
+        ensures distinct { HasDistinctKeys K.eq result.entries }
         ensures capacity { result.capacity ≡ vec_capacity pairs }
     {
         VecMap { pairs }

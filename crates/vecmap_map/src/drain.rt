@@ -2,9 +2,9 @@
 //!
 //! The iterator holds a reference to the map and no vector. So the proof of a caller knows what the map has once the
 //! drain is dropped.
-ghost use Rattle.std.specs.{Prelude.{◌≡◌, ◌<◌, ◌≤◌, ◌^◌, length, slice_range}, Bound.{end_index, start_index}, Iterator.at_most, List.remove_range};
+ghost use Rattle.std.specs.{Prelude.{◌≡◌, ◌<◌, ◌≤◌, ◌^◌, Bool, length, slice_range}, Bound.{end_index, start_index}, Iterator.at_most, List.remove_range};
 ghost use Rattle.std.specs.Iterator.Runs.{YieldsInOrder, YieldsInReverse};
-ghost use Rattle.vecmap_base.specs.{Drain.KeepsAlong, Iterators.HintsExactly, Lookups.KeepsFront};
+ghost use Rattle.vecmap_base.specs.{Drain.KeepsAlong, Iterators.HintsExactly, Lookups.KeepsFront, Pairs.HasDistinctKeys};
 ghost use Rattle.vecmap_base.specs.Ranges.{AreEndsWithin, IsRangeWithin, items_between, without_between};
 ghost use Rattle.vecmap_map.specs.Drain.{DrainKeeps, DrainNext, DrainNextBack, drain_capacity, drain_kept, drain_lender, drain_rest};
 
@@ -175,6 +175,8 @@ impl<'a, K, V> Drain<'a, K, V> {
 impl<'a, K: Drop, V: Drop> Drop for Drain<'a, K, V> {
     fn drop(self)
         ensures kept { self.exit.0.now.entries ≡ drain_kept self.entry }
+        ensures distinct { (eq : K → K → Bool) → HasDistinctKeys eq (drain_kept self.entry)
+            → HasDistinctKeys eq self.exit.0.now.entries }
         ensures capacity { self.exit.0.now.capacity ≡ drain_capacity self.entry }
     {
         let Drain {

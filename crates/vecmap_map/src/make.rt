@@ -68,7 +68,9 @@ impl<K, V> VecMap<K, V> {
     /// map.as_slice() // [('a', 1), ('b', 2)]
     /// ```
     pub fn as_slice(&self) -> &[(K, V)]
-        ensures { result.now ≡ self.now.entries }
+        ensures list { result.now ≡ self.now.entries }
+        ensures distinct { (eq : K → K → Bool) → HasDistinctKeys eq self.now.entries
+            → HasDistinctKeys eq result.now }
     {
         self.pairs.as_slice()
     }
@@ -83,6 +85,8 @@ impl<K, V> VecMap<K, V> {
     /// ```
     pub fn into_vec(self) -> Vec<(K, V)>
         ensures list { result.items ≡ self.entries }
+        ensures distinct { (eq : K → K → Bool) → HasDistinctKeys eq self.entries
+            → HasDistinctKeys eq result.items }
         ensures capacity { vec_capacity result ≡ self.capacity }
     {
         let VecMap { pairs } = self;

@@ -24,10 +24,8 @@ impl<K, V> VecMap<K, V> {
         K: Drop,
         V: Drop,
         ensures list { self.new.entries ≡ [] }
-        ensures capacity { self.new.capacity ≡ self.old.capacity }
-
-        // What follows for lookups, lengths and indices.
         ensures distinct { (eq : K → K → Bool) → HasDistinctKeys eq self.new.entries }
+        ensures capacity { self.new.capacity ≡ self.old.capacity }
     {
         self.pairs.clear();
     }

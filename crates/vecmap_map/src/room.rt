@@ -1,5 +1,6 @@
 //! The number of pairs, and the capacity.
-ghost use Rattle.std.specs.Prelude.{◌≡◌, ◌<◌, ◌==◌, ◌^◌, ◌↔◌, ◌≤◌, IsTrue, [], length, min};
+ghost use Rattle.std.specs.Prelude.{◌≡◌, ◌<◌, ◌==◌, ◌^◌, ◌↔◌, ◌≤◌, Bool, IsTrue, [], length, min};
+ghost use Rattle.vecmap_base.specs.Pairs.{HasDistinctKeys};
 ghost use Rattle.vecmap_map.specs.Contents.{HasRoom, Reserves};
 
 use crate::VecMap;
@@ -171,6 +172,8 @@ impl<K, V> VecMap<K, V> {
     /// ```
     pub fn shrink_to_fit(&mut self)
         ensures list { self.new.entries ≡ self.old.entries }
+        ensures distinct { (eq : K → K → Bool) → HasDistinctKeys eq self.old.entries
+            → HasDistinctKeys eq self.new.entries }
         ensures within_capacity { length self.old.entries ≤ self.new.capacity }
         ensures capacity { self.new.capacity ≤ self.old.capacity }
         ensures frees { self.old.entries ≡ [] → self.new.capacity ≡ 0 }
@@ -197,6 +200,8 @@ impl<K, V> VecMap<K, V> {
     /// ```
     pub fn shrink_to(&mut self, min_capacity: usize)
         ensures list { self.new.entries ≡ self.old.entries }
+        ensures distinct { (eq : K → K → Bool) → HasDistinctKeys eq self.old.entries
+            → HasDistinctKeys eq self.new.entries }
         ensures within_capacity { length self.old.entries ≤ self.new.capacity }
         ensures capacity { self.new.capacity ≤ self.old.capacity }
         ensures limit { min min_capacity self.old.capacity ≤ self.new.capacity }

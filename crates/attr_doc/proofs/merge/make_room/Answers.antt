@@ -19,4 +19,4 @@ loop-other-preserved c =
     }
 
 pub returns-clause-rooms : goal.returns-clause-rooms
-returns-clause-rooms c = subst (All (IsRoomFor c.loop-other.sections.entries)) (take_all c.loop-other.other-index c.as_slice-other-items.result.now c.loop-other-test.false ∙ c.as_slice-other-items.ensures) c.loop-other.invariant.rooms
+returns-clause-rooms c = subst (All (IsRoomFor c.loop-other.sections.entries)) (take_all c.loop-other.other-index c.as_slice-other-items.result.now c.loop-other-test.false ∙ c.as_slice-other-items.ensures.list) c.loop-other.invariant.rooms
