@@ -4,7 +4,7 @@ use Rattle.std.specs.Prelude.{◌≡◌, [], ◌+◌, ◌<◌, ◌≤◌, ℕ, B
 use Rattle.std.specs.{List.list_any, List.Sorted.IsPermutation, Option.option_or, Cmp.IsEquivalence}
 use Rattle.std.specs.Set.{is_member, KeepsOthers as KeepsOtherItems}
 use Rattle.std.specs.Map.{IsKeyTest, KeepsOthers, keys_of, set_value, values_of}
-use Rattle.vecmap_base.specs.{Equality.has_same_counts, Indices.KeepsIndices, Pairs.{HasDistinctKeys, index_by, lookup, lookup_by, puts}}
+use Rattle.vecmap_base.specs.{Equality.has_same_counts, Indices.{HasMatchAt, KeepsIndices}, Pairs.{HasDistinctKeys, index_by, lookup, lookup_by, puts, with_value}}
 
 module _ {K V : Type 0} (eq : K → K → Bool) where
   -- Example: from `[(1,a)]` to `[(1,a), (2,b)]` for the key 2: b.
@@ -15,6 +15,12 @@ module _ {K V : Type 0} (eq : K → K → Bool) where
     pub queries : KeepsOthers eq test l m
     -- Distinct keys stay distinct.
     pub distinct : HasDistinctKeys eq l → HasDistinctKeys eq m
+
+  -- Example: the index 1 of `[(1,a), (2,b)]` and the query 2.
+  -- At the index `i` of the list `l` is the pair that a query finds, and a write of a value there is one at the query.
+  pub record FindsAt (test : K → Bool) (l : List (K × V)) (i : ℕ) : Type 0 where
+    pub at : HasMatchAt test l i
+    pub written : (v : V) → UpdatesBy test l (with_value l i v) (Some v)
 
   -- Example: from `[(1,a), (2,b)]` to `[(2,b), (1,a)]`.
   -- Each key, and each query that matches a key and its equals alone, finds in the list `m` what it finds in `l`.

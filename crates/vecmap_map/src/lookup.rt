@@ -1,8 +1,8 @@
 //! Lookups by query and by index.
 ghost use Rattle.std.specs.Prelude.{◌≡◌, ◌-◌, ◌<◌, ◌^◌, ◌↔◌, IfSome, IsTrue, Some, is_some, length, nat_lt, option_copied, option_map, slice_get, string_eq};
 ghost use Rattle.std.specs.{Map.Iter.deref_pair, Option.option_and_then};
-ghost use Rattle.vecmap_base.specs.{Indices.{HasMatchAt, IsFoundAt}, Lookups.UpdatesBy};
-ghost use Rattle.vecmap_base.specs.Pairs.{HasDistinctKeys, has_text, index_by, lookup_by, lookup_pair_by, value_at, with_value};
+ghost use Rattle.vecmap_base.specs.{Indices.{FindsIndex, IsFoundAt}, Lookups.FindsAt};
+ghost use Rattle.vecmap_base.specs.Pairs.{HasDistinctKeys, has_text, index_by, lookup_by, lookup_pair_by, value_at};
 
 use crate::VecMap;
 use vecmap_base::{Equivalent, find_equivalent, keys_distinct};
@@ -37,8 +37,7 @@ impl<K, V> VecMap<K, V> {
     /// ```
     pub fn first(&self) -> Option<(&K, &V)>
         ensures item { option_map deref_pair result ≡ slice_get self.now.entries 0 }
-
-        // What follows for lookups, lengths and indices.
+        ensures found { is_some result ≡ nat_lt 0 (length self.now.entries) }
         ensures at { IfSome result (λ pair. IsFoundAt 0 self.now.entries pair.0.now pair.1.now) }
     {
         self.get_index(0)
@@ -55,8 +54,7 @@ impl<K, V> VecMap<K, V> {
     pub fn last(&self) -> Option<(&K, &V)>
         ensures item { option_map deref_pair result
             ≡ slice_get self.now.entries (length self.now.entries - 1) }
-
-        // What follows for lookups, lengths and indices.
+        ensures found { is_some result ≡ nat_lt 0 (length self.now.entries) }
         ensures at { IfSome result (λ pair. IsFoundAt (length self.now.entries - 1)
             self.now.entries pair.0.now pair.1.now) }
     {
@@ -83,7 +81,7 @@ impl<K, V> VecMap<K, V> {
         ensures returned { option_copied result ≡ lookup_by (Q.equivalent query) self.now.entries }
 
         // What follows for lookups, lengths and indices.
-        ensures stored { option_copied result ≡ option_and_then (value_at self.now.entries)
+        ensures found { option_copied result ≡ option_and_then (value_at self.now.entries)
             (index_by (Q.equivalent query) self.now.entries) }
     {
         let index = self.get_index_of(query)?;
@@ -183,12 +181,8 @@ impl<K, V> VecMap<K, V> {
         ensures countable { IfSome result (λ i. i < 2 ^ 63) }
 
         // What follows for lookups, lengths and indices.
-        ensures found { is_some result ≡ is_some (lookup_by (Q.equivalent query) self.now.entries) }
-        ensures at { IfSome result (HasMatchAt (Q.equivalent query) self.now.entries) }
-        ensures stored { option_and_then (value_at self.now.entries) result
-            ≡ lookup_by (Q.equivalent query) self.now.entries }
-        ensures written { IfSome result (λ i. (value : V) → UpdatesBy K.eq (Q.equivalent query)
-            self.now.entries (with_value self.now.entries i value) (Some value)) }
+        ensures found { FindsIndex (Q.equivalent query) self.now.entries result }
+        ensures at { IfSome result (FindsAt K.eq (Q.equivalent query) self.now.entries) }
     {
         let _len = self.len(); // Bounds the index.
         find_equivalent(&self.pairs, query)
@@ -243,7 +237,7 @@ impl<V> VecMap<String, V> {
         ensures returned { option_copied result ≡ lookup_by (has_text text.now) self.now.entries }
 
         // What follows for lookups, lengths and indices.
-        ensures stored { option_copied result ≡ option_and_then (value_at self.now.entries)
+        ensures found { option_copied result ≡ option_and_then (value_at self.now.entries)
             (index_by (has_text text.now) self.now.entries) }
     {
         self.get(text)
@@ -263,12 +257,8 @@ impl<V> VecMap<String, V> {
         ensures countable { IfSome result (λ i. i < 2 ^ 63) }
 
         // What follows for lookups, lengths and indices.
-        ensures found { is_some result ≡ is_some (lookup_by (has_text text.now) self.now.entries) }
-        ensures at { IfSome result (HasMatchAt (has_text text.now) self.now.entries) }
-        ensures stored { option_and_then (value_at self.now.entries) result
-            ≡ lookup_by (has_text text.now) self.now.entries }
-        ensures written { IfSome result (λ i. (value : V) → UpdatesBy string_eq (has_text text.now)
-            self.now.entries (with_value self.now.entries i value) (Some value)) }
+        ensures found { FindsIndex (has_text text.now) self.now.entries result }
+        ensures at { IfSome result (FindsAt string_eq (has_text text.now) self.now.entries) }
     {
         self.get_index_of(text)
     }

@@ -7,7 +7,7 @@ use Rattle.std.proofs.lemmas.{Map.Keys.{IsDistinct-head, IsDistinct-tail}, Optio
 use Rattle.vecmap_base.specs.Items.{put_item, swap_without, item_index}
 use Rattle.vecmap_base.proofs.IndexLemmas.{position_cons, later, list_any_position, position_front, position_stays}
 use Rattle.vecmap_base.proofs.ItemsLemmas.Recursion.{put_item_cons}
-use Rattle.vecmap_set.specs.Indices.{FindsAt, KeepsMatchIndices, KeepsMatchIndicesBelow, KeepsItemIndices, MovesItemIndex, ShiftsItems}
+use Rattle.vecmap_set.specs.Indices.{FindsAt, IsFoundAt, KeepsMatchIndices, KeepsMatchIndicesBelow, KeepsItemIndices, MovesItemIndex, ShiftsItems}
 pub use Rattle.vecmap_base.proofs.IndexLemmas.{found_item_at, stored_last}
 
 module _ {T : Type 0} (test : T → Bool) where
@@ -82,19 +82,30 @@ module _ {T : Type 0} where
   found_by_reference s i None e = ap is_some e ∙ is_some_slice_get s i
   found_by_reference s i (Some x) e = ap is_some e ∙ is_some_slice_get s i
 
+  -- The last item is there if there is one.
+  pub last_by_reference : (s : List T) (found : Option (Bor T)) → option_copied found ≡ slice_get s (length s - 1) → is_some found ≡ nat_lt 0 (length s)
+  last_by_reference [] found e = found_by_reference [] 0 found e
+  last_by_reference (x ∷ xs) found e =
+      let last : length (x ∷ xs) - 1 ≡ length xs = omega arith in
+      found_by_reference (x ∷ xs) (length xs) found (e ∙ ap (slice_get (x ∷ xs)) last)
+      ∙ lt-ltb (length xs) (length (x ∷ xs)) (omega arith) ∙ sym (lt-ltb 0 (length (x ∷ xs)) (omega arith))
+
 -- The clauses `index` of what is read at an index, and of a binary search: the elements are distinct.
 module _ {T : Type 0} (eq : T → T → Bool) (o : IsEquivalence eq) (s : List T) (d : IsDistinct eq s) where
   pub index_at : (i : ℕ) (x : T) → slice_get s i ≡ Some x → item_index eq s x ≡ Some i
   index_at i x at = position_own (eq x) eq o (o.congr x) s d i x at (o.refl x)
 
-  pub index_by_reference : (i : ℕ) (found : Option (Bor T)) → option_copied found ≡ slice_get s i → IfSome found (λ x. item_index eq s x.now ≡ Some i)
-  index_by_reference i None e = tt
-  index_by_reference i (Some x) e = index_at i x.now (sym e)
+  is_found_at : (i : ℕ) (x : T) → slice_get s i ≡ Some x → IsFoundAt eq i s x
+  is_found_at i x at = let index = index_at i x at in record { present = list_any_position (eq x) s ∙ ap is_some index; index = index }
+
+  pub item_by_reference : (i : ℕ) (found : Option (Bor T)) → option_copied found ≡ slice_get s i → IfSome found (λ x. IsFoundAt eq i s x.now)
+  item_by_reference i None e = tt
+  item_by_reference i (Some x) e = is_found_at i x.now (sym e)
 
   -- The same, as a slice says what is read.
-  pub index_of_read : (i : ℕ) (found : Option (Bor T)) → is_some found ≡ nat_lt i (length s) → IfSome found (λ x. x.now ≡ get_or s i x.now) → IfSome found (λ x. item_index eq s x.now ≡ Some i)
-  index_of_read i None within e = tt
-  index_of_read i (Some x) within e = index_at i x.now (slice_get-get_or s i x.now (ltb-true i (length s) (sym within)) ∙ ap Some (sym e))
+  pub item_of_read : (i : ℕ) (found : Option (Bor T)) → is_some found ≡ nat_lt i (length s) → IfSome found (λ x. x.now ≡ get_or s i x.now) → IfSome found (λ x. IsFoundAt eq i s x.now)
+  item_of_read i None within e = tt
+  item_of_read i (Some x) within e = is_found_at i x.now (slice_get-get_or s i x.now (ltb-true i (length s) (sym within)) ∙ ap Some (sym e))
 
   pub finds_searched : (k : T) (r : Result ℕ ℕ) → IfOk r (λ i. (x : T) × (slice_get s i ≡ Some x) × IsTrue (eq k x)) → IfOk r (FindsAt (eq k) s)
   finds_searched k (Ok i) found = finds_at (eq k) s i (position_own (eq k) eq o (o.congr k) s d i found.0 found.1 found.2)

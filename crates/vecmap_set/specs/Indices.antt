@@ -1,5 +1,5 @@
 -- At which indices a set has its elements, also after a change. `eq` is the `==` of the elements.
-use Rattle.std.specs.{Prelude.{◌≡◌, ◌+◌, ◌<◌, ◌≤◌, ℕ, Bool, IsTrue, List, Some, length, position, slice_get}, Map.IsKeyTest}
+use Rattle.std.specs.{Prelude.{◌≡◌, ◌+◌, ◌<◌, ◌≤◌, ℕ, Bool, IsTrue, List, Some, length, position, slice_get}, Map.IsKeyTest, Set.is_member}
 use Rattle.vecmap_base.specs.Items.{item_index}
 
 module _ {T : Type 0} where
@@ -27,6 +27,12 @@ module _ {T : Type 0} where
     pub after : (j : ℕ) → i ≤ j → slice_get r j ≡ slice_get s (j + 1)
 
 module _ {T : Type 0} (eq : T → T → Bool) where
+  -- Example: the element 2 at the index 1 of `[1, 2]`.
+  -- The element `x` at the index `i` of the list `s` is present, and is found there.
+  pub record IsFoundAt (i : ℕ) (s : List T) (x : T) : Type 0 where
+    pub present : IsTrue (is_member eq s x)
+    pub index : item_index eq s x ≡ Some i
+
   -- Example: from `[1x, 2x]` to `[1y, 2x]`.
   -- Each element, and each query that matches an element and its equals alone, has in the list `r` its index in `s`.
   pub record KeepsItemIndices (s r : List T) : Type 0 where

@@ -3,8 +3,9 @@
 //! A lookup by a query compares it with the elements in order, up to the first that matches, and of small elements with
 //! at most seven more: at most `len` comparisons in all. A lookup by index makes none.
 ghost use Rattle.std.specs.Prelude.{◌≡◌, ◌-◌, ◌<◌, ◌^◌, IfSome, IsTrue, Some, is_some, length, nat_lt, option_copied, option_map, position, slice_get};
-ghost use Rattle.std.specs.{List.list_any, Set.is_member};
-ghost use Rattle.vecmap_base.specs.{Items.{item_index, stored_first}, Pairs.has_text};
+ghost use Rattle.std.specs.List.{list_any};
+ghost use Rattle.vecmap_base.specs.{Items.stored_first, Pairs.has_text};
+ghost use Rattle.vecmap_set.specs.Indices.{IsFoundAt};
 
 use crate::VecSet;
 use vecmap_base::{Equivalent, contains_equivalent, find_item_equivalent};
@@ -33,14 +34,11 @@ impl<T: Eq> VecSet<T> {
     /// let set = vecset!(alloc; 2, 1);
     /// set.first() // Some(&2)
     /// ```
-    #[tactic(auto, using(vecmap_base::proofs::ItemsLemmas::Stored::present_by_reference, crate::proofs::IndexLemmas::index_by_reference, crate::proofs::IndexLemmas::found_by_reference))]
+    #[tactic(auto, using(crate::proofs::IndexLemmas::item_by_reference, crate::proofs::IndexLemmas::found_by_reference))]
     pub fn first(&self) -> Option<&T>
         ensures item { option_copied result ≡ slice_get self.now.elements 0 }
-        ensures present { IfSome result (λ element. IsTrue (is_member T.eq self.now.elements
-            element.now)) }
-        ensures indexed { IfSome result (λ element. item_index T.eq self.now.elements
-            element.now ≡ Some 0) }
         ensures found { is_some result ≡ nat_lt 0 (length self.now.elements) }
+        ensures at { IfSome result (λ element. IsFoundAt T.eq 0 self.now.elements element.now) }
     {
         self.items.first()
     }
@@ -53,12 +51,13 @@ impl<T: Eq> VecSet<T> {
     /// let set = vecset!(alloc; 2, 1);
     /// set.last() // Some(&1)
     /// ```
-    #[tactic(auto, using(vecmap_base::proofs::ItemsLemmas::Stored::present_by_reference))]
+    #[tactic(auto, using(crate::proofs::IndexLemmas::item_by_reference, crate::proofs::IndexLemmas::last_by_reference))]
     pub fn last(&self) -> Option<&T>
         ensures item { option_copied result
             ≡ slice_get self.now.elements (length self.now.elements - 1) }
-        ensures present { IfSome result (λ element. IsTrue (is_member T.eq self.now.elements
-            element.now)) }
+        ensures found { is_some result ≡ nat_lt 0 (length self.now.elements) }
+        ensures at { IfSome result (λ element. IsFoundAt T.eq (length self.now.elements - 1)
+            self.now.elements element.now) }
     {
         self.items.last()
     }
@@ -76,8 +75,8 @@ impl<T: Eq> VecSet<T> {
     pub fn get<Q: Equivalent<T>>(&self, query: Q) -> Option<&T>
         ensures returned { option_copied result
             ≡ stored_first (Q.equivalent query) self.now.elements }
-        ensures found { is_some result ≡ list_any (Q.equivalent query) self.now.elements }
-        ensures matched { IfSome result (λ x. IsTrue (Q.equivalent query x.now)) }
+        ensures found { (is_some result ≡ list_any (Q.equivalent query) self.now.elements)
+            × IfSome result (λ x. IsTrue (Q.equivalent query x.now)) }
     {
         let index = find_item_equivalent(&self.items, query)?;
         Some(&self.items[index])
@@ -92,14 +91,11 @@ impl<T: Eq> VecSet<T> {
     /// set.get_index(0) // Some(&2)
     /// set.get_index(2) // None
     /// ```
-    #[tactic(auto, using(vecmap_base::proofs::ItemsLemmas::Stored::present_by_reference, crate::proofs::IndexLemmas::index_by_reference, crate::proofs::IndexLemmas::found_by_reference))]
+    #[tactic(auto, using(crate::proofs::IndexLemmas::item_by_reference, crate::proofs::IndexLemmas::found_by_reference))]
     pub fn get_index(&self, index: usize) -> Option<&T>
         ensures item { option_copied result ≡ slice_get self.now.elements index }
-        ensures present { IfSome result (λ element. IsTrue (is_member T.eq self.now.elements
-            element.now)) }
-        ensures indexed { IfSome result (λ element. item_index T.eq self.now.elements
-            element.now ≡ Some index) }
         ensures found { is_some result ≡ nat_lt index (length self.now.elements) }
+        ensures at { IfSome result (λ element. IsFoundAt T.eq index self.now.elements element.now) }
     {
         self.items.get(index)
     }
