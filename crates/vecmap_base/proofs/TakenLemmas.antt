@@ -1,9 +1,9 @@
 -- A list without one of its items, wherever the items after it go: what removals that shift and that swap share.
 use Rattle.std.specs.{List.list_any, List.Sorted.IsPermutation, List.swap_remove, Option.option_map_or, Option.option_to_list}
-use Rattle.std.proofs.Common.{◌≡◌, ◌∙◌, ◌+◌, ◌-◌, ◌++◌, ◌<◌, ◌⊎◌, ℕ, Bool, true, false, List, [], ◌∷◌, None, Option, Some, ap, arith, if◌then◌else◌, inl, inr, is_some, length, min, position, refl, remove, slice_get, sym, subst, take, take_at}
+use Rattle.std.proofs.Common.{◌≡◌, ◌∙◌, ◌+◌, ◌-◌, ◌++◌, ◌<◌, ◌⊎◌, ℕ, Bool, true, false, List, [], ◌∷◌, None, Option, Some, ap, arith, get_or, get_or-take, if◌then◌else◌, inl, inr, is_some, length, length-set, min, position, refl, remove, set, slice_get, sym, subst, take, take_at}
 use Rattle.std.proofs.lemmas.List.{append-nil, length-take, length-take-le, take-set-le, take-take}
 use Rattle.std.proofs.lemmas.List.Sorted.{IsPermutation-append_comm, IsPermutation-remove, IsPermutation-swap_remove, length_permutation}
-use Rattle.std.proofs.lemmas.Option.{get_or_from_slice_get, slice_get_within}
+use Rattle.std.proofs.lemmas.{Grind.get_or-set_at, Option.{get_or_from_slice_get, slice_get-get_or, slice_get_within}}
 use Rattle.vecmap_base.specs.Items.{swap_without, swap_without_first, without_first}
 use Rattle.vecmap_base.proofs.IndexLemmas.{found_item_at, list_any_position, slice_get_last}
 
@@ -72,3 +72,17 @@ module _ {T : Type 0} (s r : List T) where
     len_of_first (inr t) =
         let some : list_any test s ≡ true = list_any_position test s ∙ ap is_some t.3 in
         rw some (one_less t.1 t.2.1)
+
+module _ {T : Type 0} where
+  -- After a removal by swap the last item is at the index.
+  pub at_swap_removed : (s r : List T) (i : ℕ) (x : T) → r ≡ swap_without s i → slice_get s i ≡ Some x → i < length s - 1 → slice_get r i ≡ slice_get s (length s - 1)
+  at_swap_removed s r i x e at h =
+      let n = length s - 1 in
+      let last = get_or s n x in
+      let written = set s i last in
+      let left : r ≡ take n written = e ∙ ap (λ found. option_map_or (λ y. swap_remove s i y) found s) at in
+      let long : length (take n written) ≡ n = length-take-le n written (omega (arith, length-set s i last)) in
+      ap (λ l. slice_get l i) left
+      ∙ slice_get-get_or (take n written) i x (omega (arith, long, h))
+      ∙ ap Some (get_or-take n written i x h ∙ get_or-set_at s i i last x refl (omega (arith, h)))
+      ∙ sym (slice_get-get_or s n x (omega (arith, h)))

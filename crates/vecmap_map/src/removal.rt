@@ -1,7 +1,7 @@
 //! Removal of pairs.
-ghost use Rattle.std.specs.{Cmp.IsEquivalence, Prelude.{◌≡◌, ◌<◌, ◌≤◌, Bool, IfNone, IfOk, IfSome, IsOk, None, OnErr, Some, String, [], false, length, remove, string_eq, true}, Map.IsKeyTest};
+ghost use Rattle.std.specs.{Cmp.IsEquivalence, Prelude.{◌≡◌, ◌-◌, ◌<◌, ◌≤◌, Bool, IfNone, IfOk, IfSome, IsOk, None, OnErr, Some, String, [], false, length, remove, string_eq, true}, Map.IsKeyTest};
 ghost use Rattle.vecmap_base.specs.{Asked.{CallableAtPair, CallableOnEach, CallsAtPair}, Kept.{RetainsPairs, ReturnsAtValue}};
-ghost use Rattle.vecmap_base.specs.{Indices.ShiftsIndices, Items.swap_without, Lookups.KeepsFront, Pairs.{HasDistinctKeys, has_text, index_by, lookup_by, swap_without_by, without_by}};
+ghost use Rattle.vecmap_base.specs.{Indices.{MovesIndex, ShiftsIndices}, Items.swap_without, Lookups.KeepsFront, Pairs.{HasDistinctKeys, has_text, index_by, lookup_by, swap_without_by, without_by}};
 ghost use Rattle.vecmap_base.specs.Removals.{FindsPair, RemovesAt, RemovesBy, RemovesLast, SplitsAt};
 
 use crate::VecMap;
@@ -151,6 +151,7 @@ impl<K, V> VecMap<K, V> {
     pub fn pop(&mut self) -> Option<(K, V)>
         ensures removal { RemovesLast self.old.entries result self.new.entries }
         ensures capacity { self.new.capacity ≡ self.old.capacity }
+        ensures unchanged { IfNone result (self.new ≡ self.old) }
     {
         self.pairs.pop()
     }
@@ -318,6 +319,8 @@ impl<K, V> VecMap<K, V> {
     pub fn swap_remove_index(&mut self, index: usize) -> (K, V)
         requires within { index < length self.old.entries }
         ensures removal { RemovesAt swap_without index self.old.entries result self.new.entries }
+        ensures indices { index < length self.old.entries - 1 → MovesIndex
+            (length self.old.entries - 1) index self.old.entries self.new.entries }
         ensures capacity { self.new.capacity ≡ self.old.capacity }
 
         // What follows for lookups, lengths and indices.

@@ -1,10 +1,10 @@
 -- At which indices elements and queries find their match after a change, in the words of contracts.
 use Rattle.std.specs.{Cmp.IsEquivalence, List.AllByRecursion, List.IsDistinct, Map.IsKeyTest, Borrow.Bor, List.list_any}
-use Rattle.std.specs.{Prelude.{IfSome, IfOk, IsTrue, Err, Ok, Result, nat_lt, option_copied}, List.swap_remove, Option.option_map_or}
-use Rattle.std.proofs.Common.{◌≡◌, ◌∙◌, ◌++◌, ◌<◌, ◌-◌, ◌≤◌, ℕ, suc, zero, Bool, true, false, List, [], ◌∷◌, None, Option, Some, ap, arith, get_or, get_or-take, length, length-set, position, refl, remove, set, slice_get, sym, take, is_some}
-use Rattle.std.proofs.lemmas.{Bool.{cases_Bool, cases_lt, le-ltb, lt-ltb, ltb-true}, Grind.get_or-set_at, List.length-take-le}
+use Rattle.std.specs.Prelude.{IfSome, IfOk, IsTrue, Err, Ok, Result, nat_lt, option_copied}
+use Rattle.std.proofs.Common.{◌≡◌, ◌∙◌, ◌++◌, ◌<◌, ◌-◌, ◌≤◌, ℕ, suc, zero, Bool, true, false, List, [], ◌∷◌, None, Option, Some, ap, arith, get_or, length, position, refl, remove, slice_get, sym, take, is_some}
+use Rattle.std.proofs.lemmas.Bool.{cases_Bool, cases_lt, le-ltb, lt-ltb, ltb-true}
 use Rattle.std.proofs.lemmas.{Map.Keys.{IsDistinct-head, IsDistinct-tail}, Option.{none-some, slice_get-get_or, slice_get_within}}
-use Rattle.vecmap_base.specs.Items.{put_item, swap_without, item_index}
+use Rattle.vecmap_base.specs.Items.{put_item, item_index}
 use Rattle.vecmap_base.proofs.IndexLemmas.{position_cons, later, list_any_position, position_front, position_stays}
 use Rattle.vecmap_base.proofs.ItemsLemmas.Recursion.{put_item_cons}
 use Rattle.vecmap_set.specs.Indices.{FindsAt, IsFoundAt, KeepsMatchIndices, KeepsMatchIndicesBelow, KeepsItemIndices, MovesItemIndex, ShiftsItems}
@@ -41,20 +41,6 @@ module _ {T : Type 0} (test : T → Bool) where
     position_moved s r i j at d e =
         let found = found_item_at test s (Some i) (sym e) in
         position_own r d j found.0 (at ∙ found.1) found.2
-
-module _ {T : Type 0} where
-  -- After a removal by swap the last item is at the index.
-  pub at_swap_removed : (s r : List T) (i : ℕ) (x : T) → r ≡ swap_without s i → slice_get s i ≡ Some x → i < length s - 1 → slice_get r i ≡ slice_get s (length s - 1)
-  at_swap_removed s r i x e at h =
-      let n = length s - 1 in
-      let last = get_or s n x in
-      let written = set s i last in
-      let left : r ≡ take n written = e ∙ ap (λ found. option_map_or (λ y. swap_remove s i y) found s) at in
-      let long : length (take n written) ≡ n = length-take-le n written (omega (arith, length-set s i last)) in
-      ap (λ l. slice_get l i) left
-      ∙ slice_get-get_or (take n written) i x (omega (arith, long, h))
-      ∙ ap Some (get_or-take n written i x h ∙ get_or-set_at s i i last x refl (omega (arith, h)))
-      ∙ sym (slice_get-get_or s n x (omega (arith, h)))
 
 -- Where the items are after the removal of one.
 module _ {T : Type 0} where

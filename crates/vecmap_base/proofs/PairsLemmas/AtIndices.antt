@@ -36,11 +36,6 @@ module _ {K V : Type 0} (test : K → Bool) where
       by false t None a f rest = absurd (none-some i f)
       by false t (Some j) a f rest = let m = rest j a in (m.0, m.1, ap (slice_get (p ∷ ps)) (sym (same_Some (suc j) i f)) ∙ m.2, m.3, m.4)
 
-  -- The same of a search that may have found nothing.
-  pub match_if_found : (l : List (K × V)) (found : Option ℕ) → found ≡ index_by test l → IfSome found (HasMatchAt test l)
-  match_if_found l None e = tt
-  match_if_found l (Some i) e = match_at l i (sym e)
-
   -- A pair that is appended moves no key.
   pub index_stays : (l : List (K × V)) (p : K × V) (i : ℕ) → index_by test l ≡ Some i → index_by test (l ++ p ∷ []) ≡ Some i
   index_stays l p i e = index_by_is test (l ++ p ∷ []) ∙ position_front (λ q. test q.0) (p ∷ []) l i (sym (index_by_is test l) ∙ e)
@@ -106,9 +101,9 @@ module _ {K V : Type 0} where
   pub shifts_without : (test : K → Bool) (l m : List (K × V)) → m ≡ without_by test l → IfSome (index_by test l) (λ i. ShiftsIndices i l m)
   shifts_without test l m e = grind (arith, without_by_index, shifts_indices)
 
-  -- In another order, a pair that is known to be at another index is found there.
-  pub moves_index : (l m : List (K × V)) (i j : ℕ) → IsPermutation l m → slice_get m j ≡ slice_get l i → MovesIndex i j l m
-  moves_index l m i j moved at = record {
+  -- If distinct keys stay distinct, a pair that is known to be at another index is found there.
+  pub moves_one : (l m : List (K × V)) (i j : ℕ) → ((eq : K → K → Bool) → IsEquivalence eq → HasDistinctKeys eq l → HasDistinctKeys eq m) → slice_get m j ≡ slice_get l i → MovesIndex i j l m
+  moves_one l m i j stay at = record {
     pair = at;
     key = λ eq o d k. found eq (eq k) o (o.congr k) d;
     query = found;
@@ -117,4 +112,8 @@ module _ {K V : Type 0} where
       found : (eq : K → K → Bool) (test : K → Bool) → IsEquivalence eq → IsKeyTest eq test → HasDistinctKeys eq l → index_by test l ≡ Some i → index_by test m ≡ Some j
       found eq test o respects d e =
           let here = match_at test l i e in
-          index_by_own test eq o respects m (distinct_keys_rearranged eq o l m moved d) j (here.0, here.1) (at ∙ here.2) here.3
+          index_by_own test eq o respects m (stay eq o d) j (here.0, here.1) (at ∙ here.2) here.3
+
+  -- The same in another order.
+  pub moves_index : (l m : List (K × V)) (i j : ℕ) → IsPermutation l m → slice_get m j ≡ slice_get l i → MovesIndex i j l m
+  moves_index l m i j moved at = moves_one l m i j (λ eq o d. distinct_keys_rearranged eq o l m moved d) at
