@@ -6,4 +6,3 @@ pub mod Members
 pub mod Filtered
 pub mod Changes
 pub mod Sorted
-pub mod Stored

@@ -67,6 +67,7 @@ module _ {K V : Type 0} where
   -- Example: from `[(1,a)]`, with `[(1,b), (2,c)]`, to `[(1,b), (2,c)]`.
   -- The list `m` is the list `l` after insertions of `pairs`.
   pub record Joins (eq : K → K → Bool) (l pairs m : List (K × V)) : Type 0 where
+    pub entries : m ≡ puts eq l pairs
     -- What lookups find if the keys of `pairs` are distinct: the value in `pairs`, or else the value in `l`.
     pub lookups : HasDistinctKeys eq pairs → (q : K) → lookup eq m q ≡ option_or (lookup eq pairs q) (lookup eq l q)
     pub queries : (test : K → Bool) → IsKeyTest eq test → HasDistinctKeys eq pairs → lookup_by test m ≡ option_or (lookup_by test pairs) (lookup_by test l)
@@ -75,6 +76,8 @@ module _ {K V : Type 0} where
     pub indices : (test : K → Bool) (i : ℕ) → index_by test l ≡ Some i → index_by test m ≡ Some i
     pub len : (length l ≤ length m) × (length m ≤ length l + length pairs)
     pub not_empty : 0 < length pairs → 0 < length m
+    -- If all keys are distinct, the pairs are appended. `whole` is what a split has divided.
+    pub joined : (whole : List (K × V)) → l ++ pairs ≡ whole → HasDistinctKeys eq whole → m ≡ whole
 
   -- Example: of `[(1,a), (2,b), (1,c)]`: `[(1,c), (2,b)]`.
   -- The list `m` is what insertions of `pairs` make. If their keys are distinct, it is `pairs`.

@@ -1,7 +1,7 @@
 -- What calls that insert many pairs leave.
-use Rattle.std.specs.{Prelude.{◌≡◌, ◌<◌, ◌≤◌, ◌⊎◌, Bool, List, [], OnErr, Option, Result, length, map}, Iterator.Count}
+use Rattle.std.specs.{Prelude.{◌≡◌, ◌<◌, ◌≤◌, ◌⊎◌, Bool, List, [], OnErr, Option, Result, length, map, true}, Cmp.IsEquivalence, Iterator.Count, Map.IsKeyTest}
 use Rattle.std.specs.declared.clone.Clone as clone
-use Rattle.vecmap_base.specs.{Bulk.{HasRoomForAll, HasRoomForHalf, StopsAt}, Clones.{ArePairClones, ClonesAreSame}, Lookups.MakesPairs, Pairs.{HasDistinctKeys, puts}}
+use Rattle.vecmap_base.specs.{Bulk.{HasRoomForAll, HasRoomForHalf, StopsAt}, Clones.{ArePairClones, ClonesAreSame}, Lookups.MakesPairs, Pairs.{HasDistinctKeys, lookup_by, puts}}
 use Rattle.vecmap_map.specs.Contents.{Contents, HasRoom, Refuses}
 
 module _ {K V : Type 0} where
@@ -25,13 +25,22 @@ module _ {K V U T A E : Type 0} (becomes : U → T → Type 0) (steps : T → Op
     pub distinct : HasDistinctKeys eq old.entries → HasDistinctKeys eq new.entries
     pub late_err : 0 < length old.entries → HasRoomForHalf becomes left iter (HasRoom old) → OnErr result (StopsAt becomes steps iter (refuses old new))
 
+-- Example: from `[(1x,a)]` to `[(1y,b)]`.
+-- The list `m` has a clone of each pair of the list `l`, in order.
+pub record CopiesPairs {K V : Type 0} (key_clone : K → K → Type 0) (value_clone : V → V → Type 0) (l m : List (K × V)) : Type 0 where
+  pub entries : ArePairClones key_clone value_clone l m
+  pub same : ClonesAreSame key_clone → ClonesAreSame value_clone → m ≡ l
+  -- What queries find if each clone of a key is equal to it, and each clone of a value is the same.
+  pub lookups : ClonesAreSame value_clone → (test : K → Bool) (eq : K → K → Bool) → IsEquivalence eq → ((x y : K) → key_clone x y → eq x y ≡ true) → IsKeyTest eq test → lookup_by test m ≡ lookup_by test l
+
 -- Example: of references to `[(1,a), (1,b)]`: `[(1,b)]`.
--- The list `m` is what insertions of clones of `pairs` make.
-pub record MakesClones {K V : Type 0} (eq : K → K → Bool) (key_clone : K → K → Type 0) (value_clone : V → V → Type 0) (pairs m : List (K × V)) : Type 0 where
-  pub entries : (clones : List (K × V)) × ArePairClones key_clone value_clone pairs clones × (m ≡ puts eq [] clones)
+-- The map `m` is what insertions of clones of `pairs` make, with capacity for all of them.
+pub record MakesClones {K V : Type 0} (eq : K → K → Bool) (key_clone : K → K → Type 0) (value_clone : V → V → Type 0) (pairs : List (K × V)) (m : Contents K V) : Type 0 where
+  pub entries : (clones : List (K × V)) × ArePairClones key_clone value_clone pairs clones × (m.entries ≡ puts eq [] clones)
   -- If each clone is the same as its original, this is what insertions of `pairs` make.
-  pub same : ClonesAreSame key_clone → ClonesAreSame value_clone → MakesPairs eq pairs m
-  pub distinct : HasDistinctKeys eq m
+  pub same : ClonesAreSame key_clone → ClonesAreSame value_clone → MakesPairs eq pairs m.entries
+  pub distinct : HasDistinctKeys eq m.entries
+  pub capacity : length pairs ≤ m.capacity
 
 module _ {K V : Type 0} (eq : K → K → Bool) where
   -- Example: `Puts eq (map_of [(1x, a)] 4) [(1y, b), (2x, c)] (map_of [(1x, b), (2x, c)] 4)`.

@@ -1,5 +1,5 @@
 //! Creation of a map from many pairs, and insertion of many pairs.
-ghost use Rattle.std.specs.Prelude.{◌≡◌, ◌++◌, ◌<◌, ◌+◌, ◌≤◌, ◌/◌, IfOk, IsOk, List, None, OnErr, OnOk, [], if◌then◌else◌, length, map};
+ghost use Rattle.std.specs.Prelude.{◌≡◌, ◌<◌, ◌+◌, ◌≤◌, ◌/◌, IfOk, IsOk, List, None, OnErr, OnOk, [], if◌then◌else◌, length, map};
 ghost use Rattle.std.specs.{Iterator.{Drains, ExtendsWithItems, IsFiniteIterable}, Iterator.Runs.WholeRun, Map.Iter.{deref, deref_pair}};
 ghost use Rattle.vecmap_base.specs.{Bulk.{HasRoomForAll, HoldsOfEach}, Clones.{ClonesAreSame, ClonesSucceed}};
 ghost use Rattle.vecmap_base.specs.{Lookups.{Joins, MakesPairs}, Pairs.{HasDistinctKeys, put, puts}};
@@ -81,9 +81,7 @@ impl<K, V> VecMap<K, V> {
     where
         K: Eq + Clone,
         V: Clone,
-        ensures insertion { IfOk result (λ map. MakesClones K.eq K.is_clone V.is_clone pairs.now
-            map.entries) }
-        ensures at_least { IfOk result (λ map. length pairs.now ≤ map.capacity) }
+        ensures insertion { IfOk result (MakesClones K.eq K.is_clone V.is_clone pairs.now) }
     {
         let mut map = VecMap::with_capacity(alloc, pairs.len())?;
         for pair in pairs {
@@ -120,8 +118,8 @@ impl<K, V> VecMap<K, V> {
     where
         K: Eq + Drop,
         V: Drop,
-        ensures list { OnOk result (self.new.entries
-            ≡ puts K.eq self.old.entries other.old.entries) }
+        ensures insertion { OnOk result (Joins K.eq self.old.entries other.old.entries
+            self.new.entries) }
         ensures emptied { OnOk result (other.new ≡ with_entries other.old []) }
         ensures capacity { self.old.capacity ≤ self.new.capacity }
         ensures succeeds { HasRoom self.old (length other.old.entries) → IsOk result }
@@ -130,12 +128,6 @@ impl<K, V> VecMap<K, V> {
         ensures not_empty { OnErr result (0 < length other.old.entries) }
         ensures err { OnErr result (self.new ≡ self.old) }
         ensures other_err { OnErr result (other.new ≡ other.old) }
-
-        // What follows for lookups, lengths and indices. `whole` is what a split has divided.
-        ensures insertion { OnOk result (Joins K.eq self.old.entries other.old.entries self.new.entries) }
-        ensures joined { OnOk result ((whole : List (K × V))
-            → self.old.entries ++ other.old.entries ≡ whole → HasDistinctKeys K.eq whole
-            → self.new.entries ≡ whole) }
     {
         self.reserve(other.len())?;
         for (key, value) in other.pairs.drain(..) {

@@ -1,6 +1,7 @@
 //! Clones of a map, by a call and by the trait `Clone`, for generic code, derives and maps in maps.
-ghost use Rattle.std.specs.{Cmp.IsEquivalence, Map.IsKeyTest, Prelude.{◌≡◌, Bool, IfOk, true}};
-ghost use Rattle.vecmap_base.specs.{Clones.{ArePairClones, ClonesAreSame}, Pairs.lookup_by};
+ghost use Rattle.std.specs.Prelude.{IfOk};
+ghost use Rattle.vecmap_base.specs.Clones.{ArePairClones};
+ghost use Rattle.vecmap_map.specs.MapBulk.{CopiesPairs};
 
 use crate::VecMap;
 use std::alloc::AllocError;
@@ -30,13 +31,8 @@ impl<K, V> VecMap<K, V> {
     where
         K: Clone,
         V: Clone,
-        ensures list { IfOk result
-            (λ map. ArePairClones K.is_clone V.is_clone self.now.entries map.entries) }
-        ensures same { ClonesAreSame K.is_clone → ClonesAreSame V.is_clone
-            → IfOk result (λ map. map.entries ≡ self.now.entries) }
-        ensures lookups { ClonesAreSame V.is_clone → (test : K → Bool) (eq : K → K → Bool)
-            → IsEquivalence eq → ((x y : K) → K.is_clone x y → eq x y ≡ true) → IsKeyTest eq test
-            → IfOk result (λ map. lookup_by test map.entries ≡ lookup_by test self.now.entries) }
+        ensures copy { IfOk result (λ map. CopiesPairs K.is_clone V.is_clone self.now.entries
+            map.entries) }
     {
         Ok(VecMap {
             pairs: self.to_vec()?,

@@ -1,4 +1,5 @@
 //! Equality of maps: the order of the pairs makes no difference.
+ghost use Rattle.std.specs.Prelude.{◌≡◌, IsTrue, length};
 ghost use Rattle.vecmap_base.specs.Equality.{has_same_counts};
 
 use crate::VecMap;
@@ -36,7 +37,10 @@ impl<K: Eq, V: PartialEq> PartialEq for VecMap<K, V> {
 
     ghost laws = { on_per (λ map. map.entries) (partial_map_equality_laws K.eq V.eq K.Eq.laws V.laws) };
 
-    fn eq(&self, other: &VecMap<K, V>) -> bool {
+    fn eq(&self, other: &VecMap<K, V>) -> bool
+        ensures value { result ≡ has_same_counts K.eq V.eq self.now.entries other.now.entries }
+        ensures equal { IsTrue result → length self.now.entries ≡ length other.now.entries }
+    {
         pairs_equal(&self.pairs, &other.pairs)
     }
 }

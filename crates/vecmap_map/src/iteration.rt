@@ -22,9 +22,9 @@ impl<K, V> VecMap<K, V> {
     /// map.iter().next_back() // Some((&'b', &2))
     /// ```
     pub fn iter(&self) -> Iter<'_, K, V>
-        ensures rest { ShowsAll deref_pair self.now.entries result }
-        ensures values_run { ShowsValuesInOrder (deref_pair {K = K} {X = V}) }
-        ensures values_run_back { ShowsValuesInReverse (deref_pair {K = K} {X = V}) }
+        ensures rest { ShowsAll deref_pair self.now.entries result
+            × ShowsValuesInOrder (deref_pair {K = K} {X = V})
+            × ShowsValuesInReverse (deref_pair {K = K} {X = V}) }
     {
         Iter::over(&self.pairs)
     }

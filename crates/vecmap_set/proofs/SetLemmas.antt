@@ -8,6 +8,7 @@ use Rattle.vecmap_base.specs.{Clones.AreClones, Equality.is_within, Items.both}
 use Rattle.vecmap_base.proofs.{EqualityLemmas.Relations.apart_if_none_shared, PairsLemmas.Lookups.compares_with}
 use Rattle.vecmap_base.proofs.EqualityLemmas.Sets.{set_equal_by_half, set_lengths_differ, within_back, within_from_test}
 use Rattle.vecmap_base.proofs.DistinctLemmas.{Absent.distinct_none, Additions.distinct_adds, Clones.distinct_clones, Order.distinct_tail, Removals.distinct_drop, Removals.distinct_front, Removals.distinct_take}
+use Rattle.vecmap_set.specs.SetBulk.{HaveSameItems}
 
 module _ {T : Type 0} (eq : T → T → Bool) where
   -- Clones of some elements of l, with the fact that their originals are in l.
@@ -33,7 +34,7 @@ module _ {T : Type 0} (eq : T → T → Bool) where
 
 module _ {T : Type 0} (eq : T → T → Bool) (o : IsEquivalence eq) where
   -- Of two distinct lists of one length, one within the other, both have the same elements.
-  pub members_of_equal : (a b : List T) → IsDistinct eq a → length a ≡ length b → is_within eq a b ≡ true → (q : T) → is_member eq a q ≡ is_member eq b q
+  members_of_equal : (a b : List T) → IsDistinct eq a → length a ≡ length b → is_within eq a b ≡ true → (q : T) → is_member eq a q ≡ is_member eq b q
   members_of_equal a b d n e q = grind (arith, within_from_test, within_back)
 
   -- A query matches an element of a list, or none.
@@ -59,8 +60,11 @@ module _ {T : Type 0} (eq : T → T → Bool) (o : IsEquivalence eq) where
             ]
       ]
 
-  pub queries_of_equal : (a b : List T) → IsDistinct eq a → length a ≡ length b → is_within eq a b ≡ true → (test : T → Bool) → IsKeyTest eq test → list_any test a ≡ list_any test b
+  queries_of_equal : (a b : List T) → IsDistinct eq a → length a ≡ length b → is_within eq a b ≡ true → (test : T → Bool) → IsKeyTest eq test → list_any test a ≡ list_any test b
   queries_of_equal a b d n e = by_queries (λ x y z. x ≡ y) refl a b a (members_of_equal a b d n e)
+
+  pub have_same_items : (a b : List T) → IsDistinct eq a → length a ≡ length b → is_within eq a b ≡ true → HaveSameItems eq a b
+  have_same_items a b d n e = record { members = members_of_equal a b d n e; queries = queries_of_equal a b d n e; len = n }
 
   pub queries_within : (a b : List T) → is_within eq a b ≡ true → (test : T → Bool) → IsKeyTest eq test → list_any test a ≡ true → list_any test b ≡ true
   queries_within a b e = by_queries (λ x y z. x ≡ true → y ≡ true) (λ h. h) a b a (within_from_test eq o a b e)

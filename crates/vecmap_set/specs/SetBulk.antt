@@ -2,7 +2,7 @@
 -- follow from it. `eq` is the `==` of the elements. In the examples, `1x` and `1y` are elements that `eq` calls equal, and
 -- are not the same.
 use Rattle.std.specs.Prelude.{◌≡◌, ◌+◌, ◌++◌, ◌<◌, ◌≤◌, ◌||◌, Bool, Contains, IsTrue, List, OnErr, OnOk, Option, Result, [], length, map}
-use Rattle.std.specs.{Iterator.Count, List.IsDistinct, Set.is_member}
+use Rattle.std.specs.{Iterator.Count, List.{IsDistinct, list_any}, Map.IsKeyTest, Set.is_member}
 use Rattle.vecmap_base.specs.{Bulk.{HasRoomForAll, StopsAt}, Clones.AreClones, Equality.has_same_items, Items.{adds, both}}
 use Rattle.vecmap_set.specs.{Contents.{Contents, HasRoom, Refuses}, Indices.KeepsMatchIndices}
 
@@ -17,6 +17,13 @@ module _ {T U S A E : Type 0} (becomes : U → S → Type 0) (steps : S → Opti
     pub indices : OnOk result (KeepsMatchIndices old.elements new.elements)
 
 module _ {T : Type 0} (eq : T → T → Bool) where
+  -- Example: `[1, 2]` and `[2, 1]`.
+  -- The lists `a` and `b`, which are distinct, have the same elements.
+  pub record HaveSameItems (a b : List T) : Type 0 where
+    pub members : (q : T) → is_member eq a q ≡ is_member eq b q
+    pub queries : (test : T → Bool) → IsKeyTest eq test → list_any test a ≡ list_any test b
+    pub len : length a ≡ length b
+
   -- Example: from `[1x]` to `[1x, 2x]` for `[1y, 2x]`.
   -- The list `r` is the list `s` after insertions of all of `xs`, in order: an equal element stays, and a new one is appended.
   pub record AddsItems (s xs r : List T) : Type 0 where

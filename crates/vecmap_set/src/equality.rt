@@ -1,6 +1,7 @@
 //! Equality of sets, disjoint sets, subsets and supersets.
 ghost use Rattle.std.specs.{List.list_any, Map.IsKeyTest, Prelude.{◌≡◌, ◌↔◌, ◌≤◌, Bool, IsTrue, [], false, length}, Set.is_member};
 ghost use Rattle.vecmap_base.specs.{Equality.{has_same_items, is_within}, Items.both};
+ghost use Rattle.vecmap_set.specs.SetBulk.{HaveSameItems};
 
 use crate::VecSet;
 use vecmap_base::{are_disjoint, is_subset_of};
@@ -118,14 +119,10 @@ impl<T: Eq> PartialEq for VecSet<T> {
     ghost laws = { partial_equiv_from_equiv
         (on_equiv (λ set. set.elements) (set_equality_laws T.eq T.Eq.laws)) };
 
-    #[tactic(auto, using(crate::proofs::SetLemmas::set_equality, crate::proofs::SetLemmas::members_of_equal, crate::proofs::SetLemmas::queries_of_equal))]
+    #[tactic(auto, using(crate::proofs::SetLemmas::set_equality, crate::proofs::SetLemmas::have_same_items))]
     fn eq(&self, other: &VecSet<T>) -> bool
         ensures value { result ≡ has_same_items T.eq self.now.elements other.now.elements }
-        ensures members { IsTrue result → (q : T) → is_member T.eq self.now.elements q
-            ≡ is_member T.eq other.now.elements q }
-        ensures queries { IsTrue result → (test : T → Bool) → IsKeyTest T.eq test
-            → list_any test self.now.elements ≡ list_any test other.now.elements }
-        ensures len { IsTrue result → length self.now.elements ≡ length other.now.elements }
+        ensures equal { IsTrue result → HaveSameItems T.eq self.now.elements other.now.elements }
     {
         let (items, others) = (self.as_slice(), other.as_slice());
         if items.len() != others.len() {

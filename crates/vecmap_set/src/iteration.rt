@@ -20,8 +20,7 @@ impl<T: Eq> VecSet<T> {
     /// set.iter().next_back() // Some(&1)
     /// ```
     pub fn iter(&self) -> Iter<'_, T>
-        ensures rest { ShowsAll deref self.now.elements result }
-        ensures distinct { IsDistinct T.eq result }
+        ensures rest { ShowsAll deref self.now.elements result × IsDistinct T.eq result }
     {
         Iter::over(&self.items)
     }

@@ -85,12 +85,14 @@ module _ {K V : Type 0} (eq : K → K → Bool) (o : IsEquivalence eq) where
   pub joins_of_puts : (l pairs m : List (K × V)) → m ≡ puts eq l pairs → Joins eq l pairs m
   joins_of_puts l pairs m e =
       subst (Joins eq l pairs) (sym e) (record {
+        entries = refl;
         lookups = λ d q. found_in_either (eq q) (o.congr q) l pairs d;
         queries = λ test respects. found_in_either test respects l pairs;
         distinct = distinct_after l pairs;
         indices = λ test. indices_after test l pairs;
         len = (length_puts_least eq l pairs, length_puts_at_most eq l pairs);
         not_empty = puts_not_empty eq l pairs;
+        joined = λ whole both d. puts_apart l pairs (subst (HasDistinctKeys eq) (sym both) d) ∙ both;
       })
 
   -- The same of the empty list.

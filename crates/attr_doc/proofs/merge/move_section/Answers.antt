@@ -7,7 +7,7 @@ pub unwrap-requires : goal.unwrap-requires
 unwrap-requires c = c.append.ensures.succeeds (c.requires.room_in c.in-Some.existing.now (sym c.in-Some.ensures.value))
 
 pub returns-in-Some-clause-sections : goal.returns-in-Some-clause-sections
-returns-in-Some-clause-sections c = section_joined c.args.sections.now c.args.name c.in-Some.existing.now c.append.new.self c.in-Some.ensures.value (c.in-Some.ensures.found.0 refl) c.args.texts.entries (at_ok c.append.result c.unwrap.result c.unwrap.ensures c.append.ensures.list)
+returns-in-Some-clause-sections c = section_joined c.args.sections.now c.args.name c.in-Some.existing.now c.append.new.self c.in-Some.ensures.value (c.in-Some.ensures.found.0 refl) c.args.texts.entries (at_ok c.append.result c.unwrap.result c.unwrap.ensures c.append.ensures.insertion).entries
 
 pub returns-in-Some-clause-len : goal.returns-in-Some-clause-len
 returns-in-Some-clause-len c =

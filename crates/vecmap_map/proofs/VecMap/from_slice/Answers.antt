@@ -17,9 +17,9 @@ loop-pair-preserved g c =
       room = omega (arith, c.put_clones.ensures.capacity.capacity, c.loop-pair.invariant.room);
     }
 
-pub returns-clause-insertion : goal.returns-clause-insertion
-returns-clause-insertion g c =
+pub returns : goal.returns
+returns g c =
     let clones = c.loop-pair.invariant.puts in
     let is_clone = IsPairClone g.K.Clone.is_clone g.V.Clone.is_clone in
     let whole = take_all c.loop-pair.pair-index c.args.pairs.now c.loop-pair-test.false in
-    makes_clones g.K.PartialEq.eq g.met.K.Eq.laws g.K.Clone.is_clone g.V.Clone.is_clone c.args.pairs.now _ clones.0 (subst (λ l. AreClones is_clone l clones.0) whole clones.1) clones.2
+    record { insertion = makes_clones g.K.PartialEq.eq g.met.K.Eq.laws g.K.Clone.is_clone g.V.Clone.is_clone c.args.pairs.now _ clones.0 (subst (λ l. AreClones is_clone l clones.0) whole clones.1) clones.2 c.loop-pair.invariant.room }
