@@ -39,6 +39,8 @@ impl<K: Eq, V: PartialEq> PartialEq for VecMap<K, V> {
 
     fn eq(&self, other: &VecMap<K, V>) -> bool
         ensures value { result ≡ has_same_counts K.eq V.eq self.now.entries other.now.entries }
+
+        // What follows for lookups, lengths and indices.
         ensures equal { IsTrue result → length self.now.entries ≡ length other.now.entries }
     {
         pairs_equal(&self.pairs, &other.pairs)

@@ -37,6 +37,8 @@ impl<K, V> VecMap<K, V> {
     /// ```
     pub fn first(&self) -> Option<(&K, &V)>
         ensures item { option_map deref_pair result ≡ slice_get self.now.entries 0 }
+
+        // What follows for lookups, lengths and indices.
         ensures found { is_some result ≡ nat_lt 0 (length self.now.entries) }
         ensures at { IfSome result (λ pair. IsFoundAt 0 self.now.entries pair.0.now pair.1.now) }
     {
@@ -54,6 +56,8 @@ impl<K, V> VecMap<K, V> {
     pub fn last(&self) -> Option<(&K, &V)>
         ensures item { option_map deref_pair result
             ≡ slice_get self.now.entries (length self.now.entries - 1) }
+
+        // What follows for lookups, lengths and indices.
         ensures found { is_some result ≡ nat_lt 0 (length self.now.entries) }
         ensures at { IfSome result (λ pair. IsFoundAt (length self.now.entries - 1)
             self.now.entries pair.0.now pair.1.now) }

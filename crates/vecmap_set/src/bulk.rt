@@ -43,6 +43,8 @@ impl<T: Eq> VecSet<T> {
         ensures list { IfOk result (λ set. (it : I.IntoIter) × (items : List T)
             × I.into_iter_gives iter it × Drains I.IntoIter.next_gives it items
             × (set.elements ≡ adds T.eq [] items)) }
+
+        // What follows for lookups, lengths and indices.
         ensures runs { IfOk result (λ set. (it : I.IntoIter) × I.into_iter_gives iter it
             × WholeRun I.IntoIter.next_gives it (λ p. AddsItems T.eq [] p.items set.elements)) }
         ensures distinct { IfOk result (λ set. IsDistinct T.eq set.elements) }
@@ -159,6 +161,8 @@ impl<T: Eq> VecSet<T> {
             (HasRoom self.old) → IsOk result }
         ensures extended { Extends I.into_iter_gives I.IntoIter.next_gives I.IntoIter.remaining
             T.eq (RefusesAfter T.eq) iter self.old result self.new }
+
+        // What follows for lookups, lengths and indices.
         ensures runs { OnOk result ((it : I.IntoIter) × I.into_iter_gives iter it
             × WholeRun I.IntoIter.next_gives it (λ p. AddsItems T.eq self.old.elements p.items
             self.new.elements)) }
@@ -196,6 +200,8 @@ impl<T: Eq> VecSet<T> {
             (HasRoom self.old) → IsOk result }
         ensures extended { Extends I.into_iter_gives I.IntoIter.next_gives I.IntoIter.remaining
             T.eq (RefusesCopiesAfter T.eq deref) iter self.old result self.new }
+
+        // What follows for lookups, lengths and indices.
         ensures runs { OnOk result ((it : I.IntoIter) × I.into_iter_gives iter it
             × WholeRun I.IntoIter.next_gives it (λ p. AddsItems T.eq self.old.elements
             (map deref p.items) self.new.elements)) }

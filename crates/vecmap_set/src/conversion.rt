@@ -83,6 +83,8 @@ impl<T: Eq> VecSet<T> {
         T: Drop,
         ensures insertion { IfOk result (λ set. AddsItems T.eq [] items set.elements) }
         ensures at_least { IfOk result (λ set. N ≤ set.capacity) }
+
+        // What follows for lookups, lengths and indices.
         ensures len { IfOk result (λ set. length set.elements ≤ N) }
     {
         Ok(VecSet::from(Vec::from_array(alloc, items)?))

@@ -23,6 +23,8 @@ impl<T: Eq> VecSet<T> {
     #[tactic(auto, using(vecmap_base::proofs::EqualityLemmas::Relations::apart_if_none_shared, vecmap_base::proofs::EqualityLemmas::Relations::none_shared_if_apart, crate::proofs::SetLemmas::queries_apart))]
     pub fn is_disjoint(&self, other: &VecSet<T>) -> bool
         ensures value { IsTrue result ↔ (both T.eq self.now.elements other.now.elements ≡ []) }
+
+        // What follows for lookups, lengths and indices.
         ensures members { IsTrue result → (q : T) → IsTrue (is_member T.eq self.now.elements q)
             → is_member T.eq other.now.elements q ≡ false }
         ensures queries { IsTrue result → (test : T → Bool) → IsKeyTest T.eq test
@@ -54,6 +56,8 @@ impl<T: Eq> VecSet<T> {
     #[tactic(auto, using(vecmap_base::proofs::EqualityLemmas::Sets::longer_not_within, vecmap_base::proofs::EqualityLemmas::Sets::test_from_within, vecmap_base::proofs::EqualityLemmas::Sets::within_from_test, crate::proofs::SetLemmas::queries_within))]
     pub fn is_subset(&self, other: &VecSet<T>) -> bool
         ensures value { result ≡ is_within T.eq self.now.elements other.now.elements }
+
+        // What follows for lookups, lengths and indices.
         ensures members { IsTrue result → (q : T) → IsTrue (is_member T.eq self.now.elements q)
             → IsTrue (is_member T.eq other.now.elements q) }
         ensures queries { IsTrue result → (test : T → Bool) → IsKeyTest T.eq test
@@ -83,6 +87,8 @@ impl<T: Eq> VecSet<T> {
     /// ```
     pub fn is_superset(&self, other: &VecSet<T>) -> bool
         ensures value { result ≡ is_within T.eq other.now.elements self.now.elements }
+
+        // What follows for lookups, lengths and indices.
         ensures members { IsTrue result → (q : T) → IsTrue (is_member T.eq other.now.elements q)
             → IsTrue (is_member T.eq self.now.elements q) }
         ensures queries { IsTrue result → (test : T → Bool) → IsKeyTest T.eq test
@@ -122,6 +128,8 @@ impl<T: Eq> PartialEq for VecSet<T> {
     #[tactic(auto, using(crate::proofs::SetLemmas::set_equality, crate::proofs::SetLemmas::have_same_items))]
     fn eq(&self, other: &VecSet<T>) -> bool
         ensures value { result ≡ has_same_items T.eq self.now.elements other.now.elements }
+
+        // What follows for lookups, lengths and indices.
         ensures equal { IsTrue result → HaveSameItems T.eq self.now.elements other.now.elements }
     {
         let (items, others) = (self.as_slice(), other.as_slice());

@@ -37,6 +37,8 @@ impl<T: Eq> VecSet<T> {
     #[tactic(auto, using(crate::proofs::IndexLemmas::item_by_reference, crate::proofs::IndexLemmas::found_by_reference))]
     pub fn first(&self) -> Option<&T>
         ensures item { option_copied result ≡ slice_get self.now.elements 0 }
+
+        // What follows for lookups, lengths and indices.
         ensures found { is_some result ≡ nat_lt 0 (length self.now.elements) }
         ensures at { IfSome result (λ element. IsFoundAt T.eq 0 self.now.elements element.now) }
     {
@@ -55,6 +57,8 @@ impl<T: Eq> VecSet<T> {
     pub fn last(&self) -> Option<&T>
         ensures item { option_copied result
             ≡ slice_get self.now.elements (length self.now.elements - 1) }
+
+        // What follows for lookups, lengths and indices.
         ensures found { is_some result ≡ nat_lt 0 (length self.now.elements) }
         ensures at { IfSome result (λ element. IsFoundAt T.eq (length self.now.elements - 1)
             self.now.elements element.now) }
@@ -75,6 +79,8 @@ impl<T: Eq> VecSet<T> {
     pub fn get<Q: Equivalent<T>>(&self, query: Q) -> Option<&T>
         ensures returned { option_copied result
             ≡ stored_first (Q.equivalent query) self.now.elements }
+
+        // What follows for lookups, lengths and indices.
         ensures found { (is_some result ≡ list_any (Q.equivalent query) self.now.elements)
             × IfSome result (λ x. IsTrue (Q.equivalent query x.now)) }
     {
@@ -94,6 +100,8 @@ impl<T: Eq> VecSet<T> {
     #[tactic(auto, using(crate::proofs::IndexLemmas::item_by_reference, crate::proofs::IndexLemmas::found_by_reference))]
     pub fn get_index(&self, index: usize) -> Option<&T>
         ensures item { option_copied result ≡ slice_get self.now.elements index }
+
+        // What follows for lookups, lengths and indices.
         ensures found { is_some result ≡ nat_lt index (length self.now.elements) }
         ensures at { IfSome result (λ element. IsFoundAt T.eq index self.now.elements element.now) }
     {
@@ -116,6 +124,8 @@ impl<T: Eq> VecSet<T> {
         ensures countable { IfSome result (λ found. found.0 < 2 ^ 63) }
         ensures item { option_map (λ found. found.1.now) result
             ≡ stored_first (Q.equivalent query) self.now.elements }
+
+        // What follows for lookups, lengths and indices.
         ensures found { is_some result ≡ list_any (Q.equivalent query) self.now.elements }
         ensures at { IfSome result (λ found.
             (slice_get self.now.elements found.0 ≡ Some found.1.now)
@@ -140,6 +150,8 @@ impl<T: Eq> VecSet<T> {
         ensures index { result ≡ position (Q.equivalent query) self.now.elements }
         ensures within { IfSome result (λ i. i < length self.now.elements) }
         ensures countable { IfSome result (λ i. i < 2 ^ 63) }
+
+        // What follows for lookups, lengths and indices.
         ensures found { is_some result ≡ list_any (Q.equivalent query) self.now.elements }
         ensures at { IfSome result (λ i. (x : T)
             × (slice_get self.now.elements i ≡ Some x) × IsTrue (Q.equivalent query x)) }

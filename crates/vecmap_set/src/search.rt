@@ -33,6 +33,8 @@ impl<T: Eq> VecSet<T> {
         ensures within { IsSearchInRange result (length self.now.elements) }
         ensures index { IsBinarySearchResult (λ x. T.cmp x item.now) self.now.elements result }
         ensures at { IfOk result (FindsAt (T.eq item.now) self.now.elements) }
+
+        // What follows for lookups, lengths and indices.
         ensures found { IsSorted T.cmp self.now.elements
             → is_ok result ≡ is_member T.eq self.now.elements item.now }
     {
