@@ -30,7 +30,6 @@ impl<K, V> VecMap<K, V> {
     /// map.insert('c', 4)? // None
     /// map.as_slice() // [('a', 3), ('b', 2), ('c', 4)]
     /// ```
-    #[tactic(auto, using(vecmap_base::proofs::PairsLemmas::ByIndex::by_index))]
     #[inline]
     pub fn insert(&mut self, key: K, value: V) -> Result<Option<V>, Refused<(K, V)>>
     where
@@ -43,11 +42,8 @@ impl<K, V> VecMap<K, V> {
         ensures given { IfErr result (λ refused. refused.given ≡ (key, value)) }
         ensures err { OnErr result (Refuses K.eq self.old key self.new) }
     {
-        if let Some(index) = find(&self.pairs, &key) {
-            return Ok(Some(replace(&mut self.pairs[index].1, value)));
-        }
-        self.push(key, value)?;
-        Ok(None)
+        let (_index, old) = self.insert_full(key, value)?;
+        Ok(old)
     }
 
     /// Like [`VecMap::insert`], but also returns the index of the key.
