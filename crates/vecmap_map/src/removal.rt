@@ -237,11 +237,9 @@ impl<K, V> VecMap<K, V> {
         requires within { index < length self.old.entries }
         ensures removal { RemovesAt remove index self.old.entries result self.new.entries }
         ensures indices { ShiftsIndices index self.old.entries self.new.entries }
-        ensures capacity { self.new.capacity ≡ self.old.capacity }
-
-        // What follows for lookups, lengths and indices.
         ensures distinct { (eq : K → K → Bool) → HasDistinctKeys eq self.old.entries
             → HasDistinctKeys eq self.new.entries }
+        ensures capacity { self.new.capacity ≡ self.old.capacity }
     {
         remove_item(&mut self.pairs, index)
     }
@@ -321,11 +319,9 @@ impl<K, V> VecMap<K, V> {
         ensures removal { RemovesAt swap_without index self.old.entries result self.new.entries }
         ensures indices { index < length self.old.entries - 1 → MovesIndex
             (length self.old.entries - 1) index self.old.entries self.new.entries }
-        ensures capacity { self.new.capacity ≡ self.old.capacity }
-
-        // What follows for lookups, lengths and indices.
         ensures distinct { (eq : K → K → Bool) → IsEquivalence eq
             → HasDistinctKeys eq self.old.entries → HasDistinctKeys eq self.new.entries }
+        ensures capacity { self.new.capacity ≡ self.old.capacity }
     {
         self.pairs.swap_remove(index)
     }

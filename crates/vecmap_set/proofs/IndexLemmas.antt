@@ -1,10 +1,10 @@
 -- At which indices elements and queries find their match after a change, in the words of contracts.
 use Rattle.std.specs.{Cmp.IsEquivalence, List.AllByRecursion, List.IsDistinct, Map.IsKeyTest, Borrow.Bor, List.list_any}
-use Rattle.std.specs.Prelude.{IfSome, IfOk, IsTrue, Err, Ok, Result, nat_lt, option_copied}
+use Rattle.std.specs.{Option.option_map_or, Prelude.{IfSome, IfOk, IsTrue, Err, Ok, Result, nat_lt, option_copied}}
 use Rattle.std.proofs.Common.{◌≡◌, ◌∙◌, ◌++◌, ◌<◌, ◌-◌, ◌≤◌, ℕ, suc, zero, Bool, true, false, List, [], ◌∷◌, None, Option, Some, ap, arith, get_or, length, position, refl, remove, slice_get, sym, take, is_some}
 use Rattle.std.proofs.lemmas.Bool.{cases_Bool, cases_lt, le-ltb, lt-ltb, ltb-true}
 use Rattle.std.proofs.lemmas.{Map.Keys.{IsDistinct-head, IsDistinct-tail}, Option.{none-some, slice_get-get_or, slice_get_within}}
-use Rattle.vecmap_base.specs.Items.{put_item, item_index}
+use Rattle.vecmap_base.specs.Items.{put_item, item_index, without_first}
 use Rattle.vecmap_base.proofs.IndexLemmas.{position_cons, later, list_any_position, position_front, position_stays}
 use Rattle.vecmap_base.proofs.ItemsLemmas.Recursion.{put_item_cons}
 use Rattle.vecmap_set.specs.Indices.{FindsAt, IsFoundAt, KeepsMatchIndices, KeepsMatchIndicesBelow, KeepsItemIndices, MovesItemIndex, ShiftsItems}
@@ -113,6 +113,13 @@ module _ {T : Type 0} (s r : List T) where
 
   pub items_shift : (i : ℕ) → r ≡ remove s i → ShiftsItems i s r
   items_shift i e = grind (arith, items_before_removal, items_after_removal)
+
+  pub items_shift_first : (test : T → Bool) → r ≡ without_first test s → IfSome (position test s) (λ i. ShiftsItems i s r)
+  items_shift_first test = by_index (position test s)
+    where
+      by_index : (found : Option ℕ) → r ≡ option_map_or (λ i. remove s i) found s → IfSome found (λ i. ShiftsItems i s r)
+      by_index None e = tt
+      by_index (Some i) e = items_shift i e
 
 module _ {T : Type 0} (eq : T → T → Bool) (o : IsEquivalence eq) (s r : List T) where
   pub indices_of_put : (x : T) → r ≡ put_item eq s x → KeepsItemIndices eq s r

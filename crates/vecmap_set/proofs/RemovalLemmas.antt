@@ -72,7 +72,6 @@ module _ {T : Type 0} (eq : T → T → Bool) (o : IsEquivalence eq) where
     removes_at without i x e at = record {
       element = at.0;
       elements = e;
-      distinct = IsDistinct-tail eq x r (distinct_rearranged eq o s (x ∷ r) at.1 d);
       updates = members_removed eq o s r x at.1 d;
       any = takes x at.1;
       len = one_less s r x at.1;
@@ -85,8 +84,11 @@ module _ {T : Type 0} (eq : T → T → Bool) (o : IsEquivalence eq) where
     pub swap_removes_item_at : (i : ℕ) (x : T) → r ≡ swap_without s i → slice_get s i ≡ Some x → RemovesItemAt eq swap_without i s x r
     swap_removes_item_at i x e read = removes_at swap_without i x e (taken_by_swap s r i x e read)
 
+    pub distinct_swap_removed : (i : ℕ) (x : T) → RemovesItemAt eq swap_without i s x r → IsDistinct eq r
+    distinct_swap_removed i x removal = IsDistinct-tail eq x r (distinct_rearranged eq o s (x ∷ r) (taken_by_swap s r i x removal.elements removal.element).1 d)
+
     pub last_item_moves : (i : ℕ) (x : T) → RemovesItemAt eq swap_without i s x r → i < length s - 1 → MovesItemIndex eq (length s - 1) i s r
-    last_item_moves i x removal last = index_moved eq o s r (length s - 1) i (at_swap_removed s r i x removal.elements removal.element last) removal.distinct
+    last_item_moves i x removal last = index_moved eq o s r (length s - 1) i (at_swap_removed s r i x removal.elements removal.element last) (distinct_swap_removed i x removal)
 
     pub removes_last_item : (last : Option T) → r ≡ take (length s - 1) s → s ≡ r ++ option_to_list last → RemovesLastItem eq s last r
     removes_last_item last front parts = record {

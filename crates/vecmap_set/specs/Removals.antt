@@ -58,7 +58,6 @@ module _ {T : Type 0} (eq : T → T → Bool) where
   pub record RemovesItemAt (without : List T → ℕ → List T) (i : ℕ) (s : List T) (x : T) (r : List T) : Type 0 where
     pub element : slice_get s i ≡ Some x
     pub elements : r ≡ without s i
-    pub distinct : IsDistinct eq r
     -- What queries and tests find, how many elements there are, and where those before the index are.
     pub updates : UpdatesMember eq (eq x) s r false
     pub any : Takes x s r

@@ -1,5 +1,5 @@
 //! Removal of elements.
-ghost use Rattle.std.specs.Prelude.{◌≡◌, ◌-◌, ◌<◌, ◌≤◌, Bool, IfNone, IfOk, IfSome, IsOk, OnErr, String, [], false, length, remove, string_eq, true};
+ghost use Rattle.std.specs.Prelude.{◌≡◌, ◌-◌, ◌<◌, ◌≤◌, Bool, IfNone, IfOk, IfSome, IsOk, OnErr, String, [], false, length, position, remove, string_eq, true};
 ghost use Rattle.std.specs.{Fn.TakesAt, List.{IsDistinct, list_any}};
 ghost use Rattle.vecmap_base.specs.{Asked.{CallableOnEach, CallsAtItem}, Kept.ReturnsAt, Items.{swap_without, swap_without_first, without_first}, Pairs.has_text};
 ghost use Rattle.vecmap_set.specs.Contents.{Stays};
@@ -176,6 +176,8 @@ impl<T: Eq> VecSet<T> {
         ensures returned { result ≡ list_any (Q.equivalent query) self.old.elements }
         ensures removal { RemovesItemBy T.eq without_first (Q.equivalent query)
             self.old.elements self.new.elements }
+        ensures indices { IfSome (position (Q.equivalent query) self.old.elements)
+            (λ index. ShiftsItems index self.old.elements self.new.elements) }
         ensures capacity { self.new.capacity ≡ self.old.capacity }
         ensures unchanged { result ≡ false → self.new ≡ self.old }
     {
@@ -208,6 +210,7 @@ impl<T: Eq> VecSet<T> {
         ensures removal { RemovesItemAt T.eq remove index self.old.elements result
             self.new.elements }
         ensures indices { ShiftsItems index self.old.elements self.new.elements }
+        ensures distinct { IsDistinct T.eq self.new.elements }
         ensures capacity { self.new.capacity ≡ self.old.capacity }
     {
         remove_item(&mut self.items, index)
@@ -259,6 +262,7 @@ impl<T: Eq> VecSet<T> {
             self.new.elements }
         ensures indices { index < length self.old.elements - 1 → MovesItemIndex T.eq
             (length self.old.elements - 1) index self.old.elements self.new.elements }
+        ensures distinct { IsDistinct T.eq self.new.elements }
         ensures capacity { self.new.capacity ≡ self.old.capacity }
     {
         self.items.swap_remove(index)
@@ -277,6 +281,8 @@ impl<T: Eq> VecSet<T> {
         ensures item { FindsItem (Q.equivalent query) self.old.elements result }
         ensures removal { RemovesItemBy T.eq without_first (Q.equivalent query)
             self.old.elements self.new.elements }
+        ensures indices { IfSome (position (Q.equivalent query) self.old.elements)
+            (λ index. ShiftsItems index self.old.elements self.new.elements) }
         ensures any { IfSome result (λ x. Takes x self.old.elements self.new.elements) }
         ensures capacity { self.new.capacity ≡ self.old.capacity }
         ensures unchanged { IfNone result (self.new ≡ self.old) }
@@ -320,6 +326,8 @@ impl VecSet<String> {
         ensures returned { result ≡ list_any (has_text text.now) self.old.elements }
         ensures removal { RemovesItemBy string_eq without_first (has_text text.now)
             self.old.elements self.new.elements }
+        ensures indices { IfSome (position (has_text text.now) self.old.elements)
+            (λ index. ShiftsItems index self.old.elements self.new.elements) }
         ensures capacity { self.new.capacity ≡ self.old.capacity }
         ensures unchanged { result ≡ false → self.new ≡ self.old }
     {
