@@ -4,7 +4,7 @@ use Rattle.std.proofs.Common.{◌≡◌, ◌∙◌, ◌+◌, ◌-◌, ◌++◌, 
 use Rattle.std.proofs.lemmas.{List.take-append-drop, Map.Keys.IsDistinct-tail}
 use Rattle.vecmap_base.specs.{Items.swap_without, Pairs.{HasDistinctKeys, lookup_by, lookup_pair_by, swap_without_by, without_by}}
 use Rattle.vecmap_base.specs.Removals.{FindsPair, ForgetsIndex, ForgetsKey, RemovesAt, RemovesBy, RemovesLast, SplitsAt}
-use Rattle.vecmap_base.proofs.IndexLemmas.list_any_position
+use Rattle.vecmap_base.proofs.IndexLemmas.{list_any_position}
 use Rattle.vecmap_base.proofs.PairsLemmas.ByIndex.{index_by_is, index_by_none, is_some_lookup_by, is_some_lookup_pair_by, value_of_pair_by, without_by_index}
 use Rattle.vecmap_base.proofs.{PairsLemmas.Distinct.{distinct_keys_rearranged, distinct_keys_remove}, PairsLemmas.Parts.{keeps_front_of, lookup_by_append}}
 use Rattle.vecmap_base.proofs.PairsLemmas.Updates.{key_passes, lookup_by_taken, updates_of_first}

@@ -1,6 +1,6 @@
 -- What lookups find after a change of a list of pairs. If a field of a record is the whole list, the others follow from it.
 -- `eq` is the `==` of keys.
-use Rattle.std.specs.Prelude.{◌≡◌, [], ◌+◌, ◌<◌, ◌≤◌, ℕ, Bool, IsSome, IsTrue, List, None, Option, Some, cond, if◌then◌else◌, is_some, length, min, nat_lt, slice_set, take, unwrap_or}
+use Rattle.std.specs.Prelude.{◌≡◌, [], ◌++◌, ◌+◌, ◌<◌, ◌≤◌, ℕ, Bool, IsSome, IsTrue, List, None, Option, Some, cond, if◌then◌else◌, is_some, length, min, nat_lt, slice_set, take, unwrap_or}
 use Rattle.std.specs.{List.list_any, List.Sorted.IsPermutation, Option.option_or, Cmp.IsEquivalence}
 use Rattle.std.specs.Set.{is_member, KeepsOthers as KeepsOtherItems}
 use Rattle.std.specs.Map.{IsKeyTest, KeepsOthers, keys_of, set_value, values_of}

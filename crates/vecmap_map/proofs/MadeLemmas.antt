@@ -1,6 +1,6 @@
 -- What is in a map that is made of clones of pairs.
 use Rattle.std.{specs.Cmp.IsEquivalence, proofs.Common.{◌≡◌, ◌∙◌, ◌≤◌, Bool, List, [], ap, length}}
-use Rattle.std.proofs.lemmas.Map.Entries.entries_from_clone
+use Rattle.std.proofs.lemmas.Map.Entries.{entries_from_clone}
 use Rattle.vecmap_base.{specs.{Clones.ArePairClones, Pairs.puts}, proofs.PairsLemmas.Parts.makes_pairs}
 use Rattle.vecmap_map.specs.{Contents.Contents, MapBulk.MakesClones}
 

@@ -8,7 +8,7 @@ use Rattle.vecmap_base.proofs.IndexLemmas.{list_any_stored, position_before, pos
 use Rattle.vecmap_base.proofs.ItemsLemmas.{Additions.adds_apart, Changes.{matches_of_front, matches_of_parts, members_popped}, Filtered.any_filtered, Members.{members_of_first, members_removed}}
 use Rattle.vecmap_base.proofs.TakenLemmas.{TakesAt, TakesFirst, at_swap_removed, first_by_shift, first_by_swap, last_read, len_of_first, len_popped, one_less, taken_by_shift, taken_by_swap}
 use Rattle.vecmap_set.specs.Removals.{FindsItem, KeepsFrontItems, RemovesItemAt, RemovesItemBy, RemovesLastItem, RetainsItems, SplitsItems, Takes}
-use Rattle.vecmap_set.specs.Indices.MovesItemIndex
+use Rattle.vecmap_set.specs.Indices.{MovesItemIndex}
 use Rattle.vecmap_set.proofs.IndexLemmas.{index_moved, indices_of_front, present_in_front}
 use Rattle.vecmap_set.proofs.QueryLemmas.{stored_matches}
 

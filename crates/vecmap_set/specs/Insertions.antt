@@ -1,7 +1,7 @@
 -- What the insertion of one element leaves of a set, one record for each kind of insertion. The first field is the whole
 -- list, and the others follow from it. `eq` is the `==` of the elements. In the examples, `1x` and `1y` are elements that
 -- `eq` calls equal, and are not the same.
-use Rattle.std.specs.Prelude.{◌≡◌, ◌++◌, ◌∷◌, ◌+◌, ◌||◌, ℕ, Bool, IsTrue, List, [], None, Some, false, if◌then◌else◌, is_some, length, not, position, true}
+use Rattle.std.specs.Prelude.{◌≡◌, ◌++◌, ◌∷◌, ◌+◌, ◌||◌, ℕ, Bool, IsTrue, List, [], None, Some, false, if◌then◌else◌, is_some, length, not, position, slice_get, true}
 use Rattle.std.specs.{List.{IsDistinct, list_any}, Set.is_member}
 use Rattle.vecmap_base.specs.{Items.{add, item_index, put_item, stored_item}, Lookups.UpdatesMember}
 use Rattle.vecmap_set.specs.{Contents.{Appends, Contents}, Indices.{FindsAt, KeepsItemIndices, KeepsMatchIndices}, Tests.AgreesOnEquals}

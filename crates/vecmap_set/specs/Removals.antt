@@ -3,7 +3,7 @@
 use Rattle.std.specs.Prelude.{◌≡◌, ◌&&◌, ◌+◌, ◌-◌, ◌<◌, ◌≤◌, ◌||◌, ℕ, Bool, IfSome, IsTrue, List, None, Option, Some, drop, false, filter, if◌then◌else◌, is_some, length, min, nat_lt, position, slice_get, take, true, unwrap_or}
 use Rattle.std.specs.List.{IsDistinct, list_any}
 use Rattle.vecmap_base.specs.{Items.{adds, stored_first}, Kept.{Kept, ReturnsAt, TestsItems}, Lookups.UpdatesMember}
-use Rattle.vecmap_set.specs.Indices.KeepsMatchIndicesBelow
+use Rattle.vecmap_set.specs.Indices.{KeepsMatchIndicesBelow}
 
 module _ {T : Type 0} where
   -- Example: 2 of `[1, 2]` for the query 2.

@@ -1,9 +1,11 @@
-use Rattle.std.proofs.{Common.{rules}, iter.runs.Consumers.total_runs}
-use Rattle.vecmap_base.{specs.Lookups.MakesPairs, proofs.PairsLemmas.Parts.makes_pairs}
+use Rattle.std.proofs.{Common.{◌∙◌, ap}, iter.runs.Consumers.total_runs}
+use Rattle.vecmap_base.{specs.{Lookups.MakesPairs, Pairs.puts}, proofs.PairsLemmas.Parts.makes_pairs}
 use Rattle.vecmap_map.proofs.VecMap.from_iter.Goals as goal
 
 pub returns-clause-list : goal.returns-clause-list
-returns-clause-list g c = search rules
+returns-clause-list g c =
+    let ran = c.in_ok-extend.ensures.ran in
+    (ran.0, ran.1, ran.2, ran.4, ran.3 ∙ ap (λ l. puts g.K.PartialEq.eq l ran.1) c.new-map.ensures.list)
 
 pub returns-clause-distinct : goal.returns-clause-distinct
 returns-clause-distinct g c =

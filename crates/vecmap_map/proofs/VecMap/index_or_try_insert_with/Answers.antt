@@ -12,7 +12,7 @@ pub returns-in-Ok-clause-insertion : goal.returns-in-Ok-clause-insertion
 returns-in-Ok-clause-insertion g c =
     let test = g.Q.Equivalent.equivalent c.args.query in
     let l = c.args.self.now.entries in
-    let pair = (c.in_ok-key.key, c.in_ok-key.value) in
+    let pair : g.row.K.Denot × g.row.V.Denot = (c.in_ok-key.key, c.in_ok-key.value) in
     let hit = c.requires.made _ c.in_ok-key.ensures in
     let none : index_by test l ≡ None = sym c.get_index_of.ensures.index ∙ c.in_default.is in
     let at = index_by_appended test l c.push.new.self.entries pair c.in-Ok.ensures.list none hit ∙ ap (λ n. Some n) (sym c.len-index.ensures.count) in

@@ -1,4 +1,4 @@
-use Rattle.std.proofs.{Common.arith, lemmas.Grind.common_steps}
+use Rattle.std.proofs.{Common.{arith, false, true}, lemmas.Grind.common_steps}
 use Rattle.vecmap_base.{specs.Asked.CallsAtItem, proofs.DistinctLemmas.Removals.distinct_kept}
 use Rattle.vecmap_set.proofs.RemovalLemmas.{retains_items}
 use Rattle.vecmap_set.proofs.VecSet.retain.Goals as goal
