@@ -3,7 +3,7 @@ use Rattle.std.specs.{Cmp.IsEquivalence, List.IsDistinct, List.swap_remove, Map.
 use Rattle.std.proofs.{Common.{arith, ◌≡◌, ℕ, Bool, List, Option, None, Some, slice_get, take, refl, sym, subst}, lemmas.List.take-map}
 use Rattle.vecmap_base.specs.Items.{swap_without}
 use Rattle.vecmap_base.specs.Pairs.{HasDistinctKeys, put_at, puts, swap_without_by, swap_without_key, with_value, without_by}
-use Rattle.vecmap_base.proofs.{DistinctLemmas.Removals.distinct_take, RemovalLemmas.swap_removes_at}
+use Rattle.vecmap_base.proofs.{DistinctLemmas.Removals.distinct_take, RemovalLemmas.distinct_swap_removed}
 use Rattle.vecmap_base.proofs.PairsLemmas.{ByIndex.without_by_index, Distinct.distinct_keys_remove, Parts.joins_of_puts, Updates.updates_put_at, Values.keys_of_with_value}
 
 module _ {K V : Type 0} (eq : K → K → Bool) where
@@ -22,7 +22,7 @@ module _ {K V : Type 0} (eq : K → K → Bool) where
       where
         by : (found : Option (K × V)) → slice_get l i ≡ found → HasDistinctKeys eq (swap_without l i)
         by None e = subst (λ found. HasDistinctKeys eq (option_map_or (λ p. swap_remove l i p) found l)) (sym e) d
-        by (Some p) e = (swap_removes_at l (swap_without l i) i p refl e).distinct eq o d
+        by (Some p) e = distinct_swap_removed l (swap_without l i) i p refl e eq o d
 
     pub distinct_keys_swap_without_by : (test : K → Bool) (l : List (K × V)) → HasDistinctKeys eq l → HasDistinctKeys eq (swap_without_by test l)
     distinct_keys_swap_without_by test l d = grind (arith, distinct_keys_swap_without)

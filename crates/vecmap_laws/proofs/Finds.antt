@@ -22,7 +22,7 @@ module _ {K V : Type 0} (eq : K → K → Bool) (o : IsEquivalence eq) where
 
   -- A permutation is a list of swaps, so these two are for sorts.
   pub lookup_swapped : (l : List (K × V)) (moves : List (ℕ × ℕ)) (q : K) → SwapsInRange (length l) moves → HasDistinctKeys eq l → lookup eq (apply_swaps l moves) q ≡ lookup eq l q
-  lookup_swapped l moves q h d = lookup_rearranged eq o l (apply_swaps l moves) record { moves = moves; below = h; is = refl } d q
+  lookup_swapped l moves q h d = lookup_rearranged l (apply_swaps l moves) record { moves = moves; below = h; is = refl } d q
 
   pub distinct_swapped : (l : List (K × V)) (moves : List (ℕ × ℕ)) → SwapsInRange (length l) moves → HasDistinctKeys eq l → HasDistinctKeys eq (apply_swaps l moves)
   distinct_swapped l moves h d = distinct_keys_rearranged eq o l (apply_swaps l moves) record { moves = moves; below = h; is = refl } d
@@ -31,7 +31,7 @@ module _ {K V : Type 0} (eq : K → K → Bool) (o : IsEquivalence eq) where
   lookup_swap l i j q h k d = lookup_swapped l ((i, j) ∷ []) q (h, k, tt) d
 
   pub lookup_reverse : (l : List (K × V)) (q : K) → HasDistinctKeys eq l → lookup eq (reverse l) q ≡ lookup eq l q
-  lookup_reverse l q d = lookup_rearranged eq o l (reverse l) (IsPermutation-reverse l) d q
+  lookup_reverse l q d = lookup_rearranged l (reverse l) (IsPermutation-reverse l) d q
 
   pub distinct_keys_reverse : (l : List (K × V)) → HasDistinctKeys eq l → HasDistinctKeys eq (reverse l)
   distinct_keys_reverse l d = distinct_keys_rearranged eq o l (reverse l) (IsPermutation-reverse l) d
