@@ -1,10 +1,10 @@
 -- What lookups find after a write of the value at an index.
 use Rattle.std.specs.{Cmp.IsEquivalence, Map.IsKeyTest, Map.set_value, Option.option_map_or}
 use Rattle.std.proofs.Common.{◌≡◌, ◌∙◌, ℕ, Bool, List, [], ◌∷◌, Some, IsSome, ap, cond, inl, inr, is_some, sym, true≢false}
-use Rattle.std.proofs.lemmas.{Bool.cases_Bool, Map.keys-set_value}
+use Rattle.std.proofs.lemmas.Map.{keys-set_value}
 use Rattle.vecmap_base.specs.{Lookups.{UpdatesAt, WritesBy}, Pairs.index_by, Pairs.lookup_by, Pairs.with_value}
 use Rattle.vecmap_base.proofs.{PairsLemmas.AtIndices.keeps_indices, PairsLemmas.ByIndex.{is_some_lookup_by, set_value_by_index}}
-use Rattle.vecmap_base.proofs.PairsLemmas.Updates.{updates_matched, updates_write, updates_written_at}
+use Rattle.vecmap_base.proofs.PairsLemmas.Updates.{updates_matched, updates_write, updates_written_at, written_found}
 use Rattle.vecmap_base.proofs.PairsLemmas.Values.{keys_of_with_value, values_of_with_value}
 
 pub writes_by : {K V : Type 0} (eq : K → K → Bool) (o : IsEquivalence eq) (test : K → Bool) → IsKeyTest eq test → (l : List (K × V)) → WritesBy eq test l
@@ -14,20 +14,7 @@ module _ {K V : Type 0} where
   own_value : (test : K → Bool) (l : List (K × V)) (i : ℕ) (v : V) → index_by test l ≡ Some i → lookup_by test (with_value l i v) ≡ Some v
   own_value test l i v at =
       let some : IsSome (lookup_by test l) = is_some_lookup_by test l ∙ ap is_some at in
-      ap (lookup_by test) (sym (set_value_by_index test l v ∙ ap (λ o. option_map_or (λ j. with_value l j v) o l) at)) ∙ found l some
-    where
-      found : (ps : List (K × V)) → IsSome (lookup_by test ps) → lookup_by test (set_value test ps v) ≡ Some v
-      found [] some = absurd (true≢false (sym some))
-      found (p ∷ ps) some =
-          elim (cases_Bool (test p.0)) [
-            | inl e ↦
-                ap (λ b. lookup_by test (cond b ((p.0, v) ∷ ps) (p ∷ set_value test ps v))) e
-                ∙ ap (λ b. cond b (Some v) (lookup_by test ps)) e
-            | inr n ↦
-                ap (λ b. lookup_by test (cond b ((p.0, v) ∷ ps) (p ∷ set_value test ps v))) n
-                ∙ ap (λ b. cond b (Some p.1) (lookup_by test (set_value test ps v))) n
-                ∙ found ps (sym (ap (λ b. is_some (cond b (Some p.1) (lookup_by test ps))) n) ∙ some)
-          ]
+      ap (lookup_by test) (sym (set_value_by_index test l v ∙ ap (λ o. option_map_or (λ j. with_value l j v) o l) at)) ∙ written_found test v l some
 
   -- After a write of the value at an index.
   pub updates_at : (l : List (K × V)) (i : ℕ) (v : V) → UpdatesAt i l (with_value l i v) v

@@ -3,7 +3,7 @@ use Rattle.std.specs.{Cmp.IsEquivalence, List.AllByRecursion, List.IsDistinct, L
 use Rattle.std.proofs.Common.{arith, ◌≡◌, ◌∙◌, ◌-◌, ◌++◌, ℕ, Bool, true, false, List, [], ◌∷◌, None, Option, Some, IsSome, ap, cond, inl, inr, insert, is_some, length, min, refl, remove, slice_get, subst, sym, true≢false}
 use Rattle.std.proofs.{lemmas.Bool.cases_Bool, lemmas.List.map-set, lemmas.List.Quantifiers.position-Some}
 use Rattle.std.proofs.{lemmas.List.Sorted.IsPermutation-insert, lemmas.Map.Entries.none_past_head, lemmas.Option.get_or_from_slice_get}
-use Rattle.std.proofs.lemmas.Map.{NonePasses, lookup-none, lookup-set_value, none_passes_from_lookup}
+use Rattle.std.proofs.lemmas.Map.{NonePasses, lookup-none, none_passes_from_lookup}
 use Rattle.std.proofs.lemmas.Map.Keys.{IsDistinct-cons, IsDistinct-tail}
 use Rattle.vecmap_base.specs.{Lookups.KeepsLookups, Lookups.UpdatesBy}
 use Rattle.vecmap_base.specs.Pairs.{HasDistinctKeys, index_by, index_of, lookup, lookup_by, put, put_at, put_key, value_at, with_pair, with_value, without_by}
@@ -11,7 +11,18 @@ use Rattle.vecmap_base.proofs.PairsLemmas.ByIndex.{index_by_is, is_some_lookup_b
 use Rattle.vecmap_base.proofs.PairsLemmas.Distinct.{distinct_keys_rearranged, distinct_keys_set_value, distinct_put}
 use Rattle.vecmap_base.proofs.{PairsLemmas.Keys.index_of_is, PairsLemmas.Lookups.{compares_with, same_answer, updates_of_put, updates_put}}
 use Rattle.vecmap_base.proofs.{DistinctLemmas.Additions.distinct_replace, PairsLemmas.Puts.put_absent}
-use Rattle.vecmap_base.proofs.{PairsLemmas.Order.{lookup_by_rearranged, pair_of_value}, TakenLemmas.{TakesFirst, first_by_shift}}
+use Rattle.vecmap_base.proofs.{PairsLemmas.Order.lookup_by_rearranged, TakenLemmas.{TakesFirst, first_by_shift}}
+
+module _ {K V : Type 0} (test : K → Bool) (v : V) where
+  -- A query finds the value that was written at its match.
+  pub written_found : (l : List (K × V)) → IsSome (lookup_by test l) → lookup_by test (set_value test l v) ≡ Some v
+  written_found [] some = grind (arith)
+  written_found (p ∷ ps) some = grind (arith, cases_Bool, (written_found ps))
+
+  -- A query that matches no such key finds what it found.
+  written_apart : (other : K → Bool) → AreApart test other → (l : List (K × V)) → lookup_by other (set_value test l v) ≡ lookup_by other l
+  written_apart other apart [] = refl
+  written_apart other apart (p ∷ ps) = grind (arith, cases_Bool, (written_apart other apart ps))
 
 module _ {K V : Type 0} (eq : K → K → Bool) (o : IsEquivalence eq) (test : K → Bool) (respects : IsKeyTest eq test) where
   -- The record from three of its facts: what the query finds, that other queries find the same, and distinct keys.
@@ -58,26 +69,7 @@ module _ {K V : Type 0} (eq : K → K → Bool) (o : IsEquivalence eq) (test : K
 
   -- After a write of the value of a present key, the key has the value, and each other key has what it had.
   pub updates_write : (l : List (K × V)) (v : V) → IsSome (lookup_by test l) → UpdatesBy eq test l (set_value test l v) (Some v)
-  updates_write l v some = updates_from l (set_value test l v) (Some v) (by (lookup_by test l) refl some) (λ other tells apart. away other apart l) (distinct_keys_set_value eq test l v)
-    where
-      by : (found : Option V) → lookup_by test l ≡ found → IsSome found → lookup_by test (set_value test l v) ≡ Some v
-      by None e h = absurd (true≢false (sym h))
-      by (Some w) e h =
-          let r = pair_of_value test l w e in
-          ap (λ f. lookup_by f (set_value test l v)) (compares_with eq o test respects r.0.0 r.2)
-          ∙ lookup-set_value o test respects r.0.0 v l some ∙ ap (λ b. cond b (Some v) (lookup eq l r.0.0)) r.2
-
-      away : (other : K → Bool) → AreApart test other → (ps : List (K × V)) → lookup_by other (set_value test ps v) ≡ lookup_by other ps
-      away other apart [] = refl
-      away other apart (p ∷ ps) =
-          elim (cases_Bool (test p.0)) [
-            | inl h ↦
-                ap (λ b. lookup_by other (cond b ((p.0, v) ∷ ps) (p ∷ set_value test ps v))) h
-                ∙ ap (λ b. cond b (Some v) (lookup_by other ps)) (apart p.0 h) ∙ sym (ap (λ b. cond b (Some p.1) (lookup_by other ps)) (apart p.0 h))
-            | inr n ↦
-                ap (λ b. lookup_by other (cond b ((p.0, v) ∷ ps) (p ∷ set_value test ps v))) n
-                ∙ ap (λ r. cond (other p.0) (Some p.1) r) (away other apart ps)
-          ]
+  updates_write l v some = updates_from l (set_value test l v) (Some v) (written_found test v l some) (λ other tells apart. written_apart test v other apart l) (distinct_keys_set_value eq test l v)
 
   -- The same, if the list before had another value at that key alone, and the write goes to the index of the key.
   pub updates_written_at : (l m : List (K × V)) (w : Option V) (i : ℕ) (v : V) → UpdatesBy eq test l m w → index_by test m ≡ Some i → UpdatesBy eq test l (with_value m i v) (Some v)
