@@ -45,31 +45,9 @@ module _ {F K V : Type 0} (R : F → K × V → Bool → K × V → F → Type 0
 
       -- A query finds what `h` makes of the value that it found.
       pub lookup_by_filtered : (h : V → Option V) (f g : F) (l m : List (K × V)) → HasDistinctKeys eq l → FiltersValues R f h → Kept R f l m g → lookup_by test m ≡ option_and_then h (lookup_by test l)
-      lookup_by_filtered h f g [] m d told k = ap (lookup_by test) k.0
+      lookup_by_filtered h f g [] m d told k = grind (arith)
       lookup_by_filtered h f g (p ∷ ps) m d told k =
-          ap (lookup_by test) k.6 ∙ elim (cases_Bool (test p.0)) [
-            | inl e ↦
-                first k.0 k.1 (ap test key ∙ e) (none_after p k.2 g ps k.3 d e k.5) ∙ sym call.0
-                ∙ ap (λ b. option_and_then h (cond b (Some p.1) (lookup_by test ps))) (sym e)
-            | inr n ↦
-                other k.0 k.1 (ap test key ∙ n)
-                ∙ lookup_by_filtered h k.2 g ps k.3 (IsDistinct-tail eq p.0 (keys_of ps) d) (subst (λ z. FiltersValues R z h) (sym call.1) told) k.5
-                ∙ ap (λ b. option_and_then h (cond b (Some p.1) (lookup_by test ps))) (sym n)
-          ]
-        where
-          key : k.1.0 ≡ p.0
-          key = same f p k.0 k.1 k.2 k.4
-
-          call : (h p.1 ≡ (if k.0 then Some k.1.1 else None)) × (k.2 ≡ f)
-          call = told p k.0 k.1 k.2 k.4
-
-          first : (b : Bool) (y : K × V) → test y.0 ≡ true → lookup_by test k.3 ≡ None → lookup_by test (if b then y ∷ k.3 else k.3) ≡ (if b then Some y.1 else None)
-          first true y e n = ap (λ b. cond b (Some y.1) (lookup_by test k.3)) e
-          first false y e n = n
-
-          other : (b : Bool) (y : K × V) → test y.0 ≡ false → lookup_by test (if b then y ∷ k.3 else k.3) ≡ lookup_by test k.3
-          other true y n = ap (λ b. cond b (Some y.1) (lookup_by test k.3)) n
-          other false y n = λ _. lookup_by test k.3
+          grind (arith, cases_Bool, (none_after p k.2 g ps k.3 d), (lookup_by_filtered h k.2 g ps k.3 (IsDistinct-tail eq p.0 (keys_of ps) d)))
 
     -- If the closure returns the same at each key that a query matches, the query finds what it found, or nothing.
     pub lookup_by_returned : (kept : Bool) (f g : F) (l m : List (K × V)) → ReturnsAtKey R f test kept → Kept R f l m g → lookup_by test m ≡ (if kept then lookup_by test l else None)
