@@ -1,8 +1,8 @@
 -- What queries find after a change of a list, in the words of contracts.
 use Rattle.std.specs.{Borrow.Bor, List.list_any, Option.option_and_then, Prelude.{IfSome, option_copied}, Set.is_member}
 use Rattle.std.proofs.Common.{arith, ◌≡◌, ◌∙◌, ◌||◌, ℕ, Bool, true, IsTrue, List, [], ◌∷◌, None, Option, Some, ap, position, refl}
-use Rattle.std.proofs.{Common.{slice_get, sym}, lemmas.{Bool.cases_Bool, List.Folds.list_any-append, Option.none-some}}
-use Rattle.vecmap_base.{specs.Items.{add, stored_first}, proofs.ItemsLemmas.Members.or_true}
+use Rattle.std.proofs.{Common.{slice_get, sym}, Math.Bool.or-true, lemmas.{Bool.cases_Bool, List.Folds.list_any-append, Option.none-some}}
+use Rattle.vecmap_base.specs.Items.{add, stored_first}
 use Rattle.vecmap_set.proofs.IndexLemmas.{found_item_at}
 
 module _ {T : Type 0} (test : T → Bool) where
@@ -25,10 +25,10 @@ module _ {T : Type 0} (eq : T → T → Bool) (f : T → Bool) (same : (x y : T)
   -- An element that is present and passes.
   any_there : (s : List T) (x : T) → is_member eq s x ≡ true → f x ≡ true → list_any f s ≡ true
   any_there [] x h e = grind (arith)
-  any_there (y ∷ ys) x h e = grind (arith, cases_Bool, same, or_true, (any_there ys x))
+  any_there (y ∷ ys) x h e = grind (arith, cases_Bool, same, or-true, (any_there ys x))
 
   any_added : (s : List T) (x : T) → list_any f (add eq s x) ≡ (f x || list_any f s)
-  any_added s x = grind (arith, cases_Bool, any_there, list_any-append, or_true)
+  any_added s x = grind (arith, cases_Bool, any_there, list_any-append, or-true)
 
 module _ {T : Type 0} (eq : T → T → Bool) (s r : List T) (x : T) where
   pub any_of_add : r ≡ add eq s x → (f : T → Bool) → ((x y : T) → eq x y ≡ true → f y ≡ f x) → list_any f r ≡ (f x || list_any f s)

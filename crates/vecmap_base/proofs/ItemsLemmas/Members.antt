@@ -1,5 +1,5 @@
 -- Which elements are present after an addition and after a removal, in the words of contracts.
-use Rattle.std.proofs.{lemmas.Grind.common_steps, lemmas.Bool.cases_Bool, lemmas.List.Folds.list_any-append}
+use Rattle.std.proofs.{Math.Bool.{or-false, or-true}, lemmas.{Bool.cases_Bool, Grind.common_steps, List.Folds.list_any-append}}
 use Rattle.std.specs.{Cmp.IsEquivalence, List.IsDistinct, List.list_any, List.Sorted.IsPermutation, Map.AreApart, Map.IsKeyTest}
 use Rattle.std.specs.Set.{is_member, KeepsOthers}
 use Rattle.std.proofs.Common.{◌≡◌, ◌∙◌, ◌||◌, ◌++◌, Bool, true, false, List, [], ◌∷◌, None, ap, arith, inl, inr, is_some, position, refl, subst, sym}
@@ -7,14 +7,6 @@ use Rattle.std.proofs.{lemmas.List.Sorted.list_any-IsPermutation, lemmas.Map.Key
 use Rattle.vecmap_base.specs.{Items.{add, adds}, Lookups.UpdatesMember}
 use Rattle.vecmap_base.proofs.{DistinctLemmas.{Absent.none_equal, Order.distinct_rearranged}, PairsLemmas.Lookups.compares_with}
 use Rattle.vecmap_base.proofs.{IndexLemmas.list_any_position, ItemsLemmas.Additions.{add_absent, add_present}, TakenLemmas.TakesFirst}
-
-or_false : (b : Bool) → (b || false) ≡ b
-or_false true = refl
-or_false false = refl
-
-pub or_true : (b : Bool) → (b || true) ≡ true
-or_true true = refl
-or_true false = refl
 
 module _ {T : Type 0} (eq : T → T → Bool) (o : IsEquivalence eq) where
   module _ (test : T → Bool) (respects : IsKeyTest eq test) where
@@ -51,25 +43,15 @@ module _ {T : Type 0} (eq : T → T → Bool) (o : IsEquivalence eq) where
   pub members_removed : (s r : List T) (x : T) → IsPermutation s (x ∷ r) → IsDistinct eq s → UpdatesMember eq (eq x) s r false
   members_removed s r x moved d = members_taken (eq x) (o.congr x) s r x d (o.refl x) moved
 
+  added_here : (s : List T) (x : T) → list_any (eq x) (add eq s x) ≡ true
+  added_here s x = grind (arith, cases_Bool, list_any-append, or-true, (o.refl x))
+
+  added_apart : (s : List T) (x : T) (other : T → Bool) → AreApart (eq x) other → list_any other (add eq s x) ≡ list_any other s
+  added_apart s x other apart = grind (arith, cases_Bool, list_any-append, or-false, (apart x (o.refl x)))
+
   -- After an addition, the element is present, and each other element exactly if it was.
   pub members_of_add : (s r : List T) (x : T) → r ≡ add eq s x → UpdatesMember eq (eq x) s r true
-  members_of_add s r x e = subst (λ l. UpdatesMember eq (eq x) s l true) (sym e) (members_from (eq x) (o.congr x) s (add eq s x) true here away)
-    where
-      here : list_any (eq x) (add eq s x) ≡ true
-      here =
-          elim (cases_Bool (is_member eq s x)) [
-            | inl h ↦ ap (list_any (eq x)) (add_present eq s x h) ∙ h
-            | inr n ↦ ap (list_any (eq x)) (add_absent eq s x n) ∙ list_any-append (eq x) s (x ∷ []) ∙ ap (λ b. list_any (eq x) s || (b || false)) (o.refl x) ∙ or_true (list_any (eq x) s)
-          ]
-
-      away : (other : T → Bool) → IsKeyTest eq other → AreApart (eq x) other → list_any other (add eq s x) ≡ list_any other s
-      away other tells apart =
-          elim (cases_Bool (is_member eq s x)) [
-            | inl h ↦ ap (list_any other) (add_present eq s x h)
-            | inr n ↦
-                ap (list_any other) (add_absent eq s x n)
-                ∙ list_any-append other s (x ∷ []) ∙ ap (λ b. list_any other s || (b || false)) (apart x (o.refl x)) ∙ or_false (list_any other s)
-          ]
+  members_of_add s r x e = subst (λ l. UpdatesMember eq (eq x) s l true) (sym e) (members_from (eq x) (o.congr x) s (add eq s x) true (added_here s x) (λ other tells apart. added_apart s x other apart))
 
   -- The same of an element that was not present and is appended.
   pub members_appended : (s r : List T) (x : T) → r ≡ s ++ x ∷ [] → is_member eq s x ≡ false → UpdatesMember eq (eq x) s r true
@@ -82,5 +64,5 @@ module _ {T : Type 0} (eq : T → T → Bool) (o : IsEquivalence eq) where
 
   -- After many additions, an element is present if it was, or if one of the added elements is equal to it.
   pub is_member_adds : (s xs : List T) (q : T) → is_member eq (adds eq s xs) q ≡ (is_member eq s q || is_member eq xs q)
-  is_member_adds s [] q = grind (arith, common_steps, or_false, members_of_add)
-  is_member_adds s (x ∷ xs) q = grind (arith, common_steps, or_false, members_of_add, (is_member_adds (add eq s x) xs q))
+  is_member_adds s [] q = grind (arith, common_steps, or-false, members_of_add)
+  is_member_adds s (x ∷ xs) q = grind (arith, common_steps, or-false, members_of_add, (is_member_adds (add eq s x) xs q))
