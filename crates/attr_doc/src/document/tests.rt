@@ -54,17 +54,6 @@ fn merged(
     format!(in alloc; "{page:?} {:?} {changes:?}", page.sections())
 }
 
-#[test]
-fn prints_the_example(rt: HostRuntime) -> Result<(), Fail> {
-    let page = [("Font", "Size", "12"), ("Page", "Width", "5")];
-    let changes = [("page", "WIDTH", "7"), ("Link", "Color", "red")];
-    let printed = merged(rt.alloc(), &page, &changes)?;
-    let expected =
-        r#"{"Font": {"Size": "12"}, "Page": {"Width": "7"}, "Link": {"Color": "red"}} ["Font", "Page", "Link"] {}"#;
-    assert_eq!(rt; printed.as_str(), expected);
-    Ok(())
-}
-
 /// Returns what two calls of `set` and one of `get` return, the document, and its sections, as they print.
 fn written_twice(alloc: Global) -> Result<String, AllocError> {
     let mut page = Document::new(alloc);
