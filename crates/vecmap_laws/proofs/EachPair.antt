@@ -2,8 +2,6 @@
 use Rattle.std.proofs.Common.{◌≡◌, All, Bool, true, false, List, [], ◌∷◌, IfSome, Some, ap, arith, filter, if◌then◌else◌, refl}
 use Rattle.std.{proofs.lemmas.{Grind.common_steps, List.Elements.{All-cons, All-head, All-tail}}, specs.{Map.set_value, Option.option_map}}
 use Rattle.vecmap_base.specs.Pairs.{lookup_by, map_values, without_by}
-use Rattle.vecmap_map.specs.Contents.{Contents, with_value_by}
-use Rattle.vecmap_laws.proofs.WriteLemmas.{written_back}
 
 module _ {K V : Type 0} (test : K → Bool) where
   -- What holds of each pair holds of each that a removal leaves.
@@ -37,11 +35,7 @@ module _ {K V : Type 0} (test : K → Bool) where
       by true f rest = skip (pick p.1) f
       by false f rest = keep (pick p.1) (rest f)
 
-  -- A value that is written over itself, as by a `get_mut` whose reference wrote nothing, leaves the map.
-  pub nothing_written : (m : Contents K V) (v : V) → lookup_by test m.entries ≡ Some v → with_value_by test m v ≡ m
-  nothing_written = written_back test
-
-  -- Nor does a write change what `g` tells of the values, if it tells the same of both.
+  -- A write does not change what `g` tells of the values, if it tells the same of both.
   pub same_values : {W : Type 0} (g : V → W) (l : List (K × V)) (v : V) → option_map g (lookup_by test l) ≡ Some (g v) → map_values g (set_value test l v) ≡ map_values g l
   same_values g [] v e = refl
   same_values {W} g (p ∷ ps) v e = by (test p.0) e (same_values g ps v)

@@ -11,14 +11,14 @@ use Rattle.vecmap_laws.proofs.AtNumbers.{absent_among_numbers, lookup_written_at
 use Rattle.vecmap_laws.proofs.CloneEquality.{clones_equal, equal_to_itself, equal_to_itself_at_numbers, same_clones}
 use Rattle.vecmap_laws.proofs.DistinctKeys.{distinct_keys_swap_without_key, distinct_keys_take, distinct_put_at, distinct_puts}
 use Rattle.vecmap_laws.proofs.{DistinctParts.{distinct_keys_drop, distinct_keys_filter}, SetRelations.number_parts_add}
-use Rattle.vecmap_laws.proofs.EachPair.{all_without, filter_without, nothing_written, same_values}
-use Rattle.vecmap_laws.proofs.{EachValue.holds_after_put, ItemMembers.is_member_add, KeyIndices.index_by_take}
+use Rattle.vecmap_laws.proofs.{EachPair.{all_without, filter_without, same_values}, Lookups.lookup_without_key_other}
+use Rattle.vecmap_laws.proofs.{EachValue.holds_after_put, ItemIndices.{item_index_add, slice_get_add}}
 use Rattle.vecmap_laws.proofs.Finds.{distinct_keys_reverse, distinct_swapped, distinct_without_key, is_member_swap_without, is_member_without, lookup_drop, lookup_put_at_any, lookup_put_key_any, lookup_reverse, lookup_swap, lookup_swap_without_key, lookup_swapped, lookup_take, present}
-use Rattle.vecmap_laws.proofs.{ItemIndices.{item_index_add, slice_get_add}, Queries.lookup_put_any_query}
-use Rattle.vecmap_laws.proofs.{Lookups.lookup_without_key_other, Sums.{sum_put_of_numbers, sum_without_of_numbers}}
-use Rattle.vecmap_laws.proofs.{LoopLemmas.keys_written, Undone.undone_at_numbers}
+use Rattle.vecmap_laws.proofs.{ItemMembers.is_member_add, KeyIndices.index_by_take, Undone.undone_at_numbers}
+use Rattle.vecmap_laws.proofs.{LoopLemmas.keys_written, WriteLemmas.written_back}
 use Rattle.vecmap_laws.proofs.LoopPairs.{element_taken, is_key_of_numbers, key_taken, number_taken, taken_matches}
-use Rattle.vecmap_laws.proofs.{NewKeys.{absent_among, absent_before, new_above}, Puts.{put_put, puts_restore}}
+use Rattle.vecmap_laws.proofs.{NewKeys.{absent_among, absent_before, new_above}, Queries.lookup_put_any_query}
+use Rattle.vecmap_laws.proofs.{Puts.{put_put, puts_restore}, Sums.{sum_put_of_numbers, sum_without_of_numbers}}
 use Rattle.vecmap_laws.proofs.SearchedMaps.{inserted_new, search_finds, search_finds_at_numbers, sorted_after, sorted_after_at_numbers}
 pub use Rattle.vecmap_laws.proofs.AtNumbers.{lookups_at_numbers, members_at_numbers}
 pub use Rattle.vecmap_laws.proofs.AtTexts.{texts}
@@ -103,7 +103,7 @@ pub ruleset new_keys = (new_above, absent_before, absent_among, absent_among_num
 
 -- What holds of each pair, which pairs a test selects, and what a function tells of the values, after a change of one
 -- pair. A value is at most the sum.
-pub ruleset each = (all_without, filter_without, holds_after_put, lookup-le-sum, nothing_written, same_values)
+pub ruleset each = (all_without, filter_without, holds_after_put, lookup-le-sum, same_values, written_back)
 
 -- What lookups find in equal maps.
 pub ruleset equal_at_numbers = (lookups_of_equal_numbers)
