@@ -23,6 +23,8 @@ ALSO = {"VecMap::new": "HashMap IndexMap", "VecSet::new": "HashSet IndexSet", "V
 ALSO |= dict.fromkeys(("VecMap::iter", "VecSet::iter"), "rev backwards loop for")
 ALSO |= dict.fromkeys(("VecMap::as_slice", "VecSet::as_slice"), "compare == eq order")
 ALSO |= dict.fromkeys(("VecMap::drain", "VecSet::drain"), "leak forget")
+ALSO |= dict.fromkeys(("VecMap::index", "VecSet::index"), "precondition")
+ALSO |= {f"&VecSet::{it}": "precondition" for it in ("bitand", "bitor", "bitxor", "sub")}
 ALSO |= {"calling": "error loop query", "proving": "loop closure callable", "proved": "panic leak trusted"}
 ALSO |= {"differences": "serde no_std panic Default ==", "porting": "IndexMap rev", "questions": "after"}
 # The definitions of std, by their paths, as constants.
@@ -46,7 +48,7 @@ def found_by(name, *words):
 
 def aliases(item, contract):
     """Returns attributes by which a search finds a call of a library: words of its purposes, and its goals."""
-    if not (item.is_public and crate_of(item.path) in LIBRARIES):
+    if not (item.is_call() and crate_of(item.path) in LIBRARIES):
         return ""
     which = table_rows(read("crates/vecmap/CALLING.md").partition("\n## Which call\n")[2].partition("\n## ")[0])
     found = {word for told, calls, *_ in which if f"`{item.name}`" in calls for word in re.findall(r"[a-z]{5,}", told)}
@@ -72,7 +74,7 @@ def function_form(item):
     head = re.sub(r"\s*(?:\{\}|;)\Z", "", item.head())
     signature, contract = [*CONTRACT.split(head, maxsplit=1), ""][:2]
     is_shown = item.is_call() and (item.doc() or contract and " for " in item.impl)
-    about = aliases(item, contract) + contract_of(item, contract, signature) if is_shown else ""
+    about = aliases(item, contract) + (contract_of(item, contract, signature) if is_shown else "")
     made = f"{about}{re.sub('//.*', '', signature).strip()} {';' if item.text.endswith(';') else '{ loop {} }'}"
     return made + blank(item.text).removeprefix(blank(made))
 
