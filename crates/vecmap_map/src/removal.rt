@@ -96,9 +96,9 @@ impl<K, V> VecMap<K, V> {
     /// dropped at the end. The capacity stays.
     ///
     /// If `f` only reads what it captures, a proof knows what lookups find afterwards in three cases: what `f` does depends
-    /// on the value alone (`lookups`), or `f` leaves the values and returns the same for each key that a query matches
-    /// (`selected`), or at the value that it finds (`stays`, `gone`). If `f` only tests the pairs, those that are left are
-    /// a filter (`left`). Distinct keys stay distinct.
+    /// on the value alone (`selection.lookups`), or `f` leaves the values and returns the same for each key that a query
+    /// matches (`selection.selected`), or at the value that it finds (the clauses `stays` and `gone`). If `f` only tests
+    /// the pairs, those that are left are a filter (`selection.left`). Distinct keys stay distinct.
     ///
     /// # Preconditions
     ///

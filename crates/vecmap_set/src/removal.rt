@@ -97,7 +97,8 @@ impl<T: Eq> VecSet<T> {
     /// `f` is called once for each element, in order, in the state that the calls before have left. The other elements
     /// are dropped at the end. The capacity stays.
     ///
-    /// If `f` only reads what it captures, a proof knows that the elements that are left are a filter (`filters`).
+    /// If `f` only reads what it captures, a proof knows that the elements that are left are a filter
+    /// (`retained.filters`).
     ///
     /// # Preconditions
     ///
