@@ -25,7 +25,9 @@ ALSO |= dict.fromkeys(("VecMap::as_slice", "VecSet::as_slice"), "compare == eq o
 ALSO |= dict.fromkeys(("VecMap::drain", "VecSet::drain"), "leak forget")
 ALSO |= dict.fromkeys(("VecMap::index", "VecSet::index"), "precondition")
 ALSO |= {f"&VecSet::{it}": "precondition" for it in ("bitand", "bitor", "bitxor", "sub")}
-ALSO |= {"calling": "error loop query", "proving": "loop closure callable", "proved": "panic leak trusted"}
+ALSO |= dict.fromkeys(("VecMap::insert", "VecSet::insert"), "push add")
+ALSO |= {"calling": "error fail loop query deduplicate", "proving": "loop closure callable invariant law import"}
+ALSO |= {"proved": "panic leak trusted premise", "contracts": "≡ λ label result requires", "changelog": "version"}
 ALSO |= {"differences": "serde no_std panic Default ==", "porting": "IndexMap rev", "questions": "after"}
 # The definitions of std, by their paths, as constants.
 CONSTANTS = {}
