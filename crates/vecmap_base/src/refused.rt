@@ -5,6 +5,8 @@ use std::{fmt, io};
 
 /// The error of a call that ran out of memory, with the value that was passed and could not be stored.
 ///
+/// `?` converts it into an `AllocError`, or into an `io::Error` of the kind `OutOfMemory`, and drops the value.
+///
 /// # Examples
 ///
 /// ```

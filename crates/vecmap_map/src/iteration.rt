@@ -14,6 +14,8 @@ use vecmap_base::{IntoIter, IntoKeys, IntoValues, Iter, IterMut, Keys, Values, V
 impl<K, V> VecMap<K, V> {
     /// Returns an iterator over the pairs in order, each as `(&K, &V)`.
     ///
+    /// `iter().rev()` iterates backwards.
+    ///
     /// # Examples
     ///
     /// ```

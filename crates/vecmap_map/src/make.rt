@@ -61,6 +61,8 @@ impl<K, V> VecMap<K, V> {
 
     /// Returns the pairs in order, as a slice.
     ///
+    /// `==` of two slices depends on the order, and `==` of two maps does not.
+    ///
     /// # Examples
     ///
     /// ```

@@ -12,6 +12,8 @@ use vecmap_base::items::{IntoIter, Iter};
 impl<T: Eq> VecSet<T> {
     /// Returns an iterator over the elements, in order. They are distinct.
     ///
+    /// `iter().rev()` iterates backwards.
+    ///
     /// # Examples
     ///
     /// ```

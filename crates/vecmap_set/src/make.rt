@@ -60,6 +60,8 @@ impl<T: Eq> VecSet<T> {
 
     /// Returns the elements in order, as a slice. They are distinct.
     ///
+    /// `==` of two slices depends on the order, and `==` of two sets does not.
+    ///
     /// # Examples
     ///
     /// ```
