@@ -73,8 +73,10 @@ def own_pages():
     place = lambda row: re.sub(r"`(\.?\w+)`", r'<span id="\1"></span>\g<0>', row[0])
     pages = {
         "contracts": re.sub(r"^\|.*?(?= \|)", place, read(f"{HERE}/contracts.md"), flags=re.MULTILINE),
-        "mutants": f"Wrong bodies, and what rejects them.\n\n{run('.ci/edits list').stdout}",
-        "questions": f"What a caller asks after a call, and what is proved.\n\n{run('.ci/questions list').stdout}",
+        "mutants": "Mutants, and what rejects each.\n\n[Only tests](../decisions/index.html#mutants-that-only-tests-"
+        f"reject) reject some.\n\n{run('.ci/edits list').stdout}",
+        "questions": "What a caller asks after a call, and what is proved.\n\n[PROVING](../proving/index.html#calls-"
+        f"and-questions) says what a name or a number means.\n\n{run('.ci/questions list').stdout}",
     }
     pages |= {name: linked(path) for path, name in guides().items()}
     about = {name: f"{found_by(name)}{doc(text)}#[allow(rustdoc::all)]" for name, text in pages.items()}
