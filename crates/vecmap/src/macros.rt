@@ -1,5 +1,5 @@
 //! The macros `vecmap!` and `vecset!`, and the functions that they call.
-ghost use Rattle.std.specs.{Prelude.{◌≡◌, IsTrue, OnErr, OnOk, true}, List.IsDistinct, Set.is_member};
+ghost use Rattle.std.specs.{Prelude.{◌≡◌, IsTrue, OnErr, OnOk}, Set.is_member};
 ghost use Rattle.vecmap_base.specs.Insertions.{AddsKey};
 ghost use Rattle.vecmap_map.specs.Contents.{KeepsRoom, Refuses};
 ghost use Rattle.vecmap_set.specs.Contents.{KeepsRoom as SetKeepsRoom, Refuses as SetRefuses};
@@ -109,7 +109,6 @@ pub fn put_pair<K: Eq + Drop, V: Drop>(
 /// ```
 pub fn add_item<T: Eq + Drop>(set: &mut VecSet<T>, item: T) -> Result<(), AllocError>
     ensures insertion { OnOk result (AddsItem T.eq set.old.elements item set.new.elements) }
-    ensures distinct { IsDistinct T.eq set.new.elements }
     ensures capacity { SetKeepsRoom T.eq set.old item set.new }
     ensures unchanged { IsTrue (is_member T.eq set.old.elements item) → set.new ≡ set.old }
     ensures err { OnErr result (SetRefuses T.eq set.old item set.new) }
