@@ -2,7 +2,6 @@
 use Rattle.std.specs.Prelude.{◌≡◌, ℕ, List, [], ◌∷◌, None, Option, Some, String, All, unwrap_or, refl, Ok, Err, OnOk, OnErr, Result}
 use Rattle.std.specs.{List.IsDistinct, Option.option_map_or, Str.str_eq_ignore_ascii_case, declared.alloc.Global.Global}
 use Rattle.std.proofs.{Common.{sym, subst, arith}, lemmas.List.Elements.{All-head, All-nil, All-tail}, lemmas.Map.Made.keys_of-map_values}
-use Rattle.vecmap_base.proofs.PairsLemmas.{Distinct.distinct_put, Puts.put_some}
 use Rattle.vecmap.specs.Pairs.{HasDistinctKeys, lookup, put, puts}
 use Rattle.vecmap_laws.proofs.AfterPuts.{puts_some}
 use Rattle.vecmap_laws.proofs.{DistinctKeys.distinct_puts, EachValue.{holds_after_put, holds_of_found}}
@@ -19,7 +18,7 @@ pub names_apart : (l : List (List ℕ × Stored)) → IsDocument (sections_of l)
 names_apart l d = subst (λ ks. IsDistinct str_eq_ignore_ascii_case ks) (keys_of-map_values (λ m. m.entries) l) d.distinct
 
 section_put : (f : Section) → HasDistinctKeys str_eq_ignore_ascii_case f → (n : List ℕ) (t : String Global) → IsSection (put str_eq_ignore_ascii_case f n t)
-section_put f d n t = record { distinct = distinct_put str_eq_ignore_ascii_case ignoring_case_equiv f n t d; not_empty = put_some str_eq_ignore_ascii_case f n t }
+section_put f d n t = record { distinct = distinct_puts str_eq_ignore_ascii_case ignoring_case_equiv f ((n, t) ∷ []) d; not_empty = puts_some str_eq_ignore_ascii_case f ((n, t) ∷ []) (omega arith) }
 
 section_puts : (f g : Section) → IsSection f → IsSection (puts str_eq_ignore_ascii_case f g)
 section_puts f g j = record { distinct = distinct_puts str_eq_ignore_ascii_case ignoring_case_equiv f g j.distinct; not_empty = puts_some str_eq_ignore_ascii_case f g (omega (arith, j.not_empty)) }
@@ -29,7 +28,7 @@ document_put : (d : Sections) → IsDocument d → (s : List ℕ) (make : Option
 document_put d i s make h =
     let f = make (lookup str_eq_ignore_ascii_case d s) in
     record {
-      distinct = distinct_put str_eq_ignore_ascii_case ignoring_case_equiv d s f i.distinct;
+      distinct = distinct_puts str_eq_ignore_ascii_case ignoring_case_equiv d ((s, f) ∷ []) i.distinct;
       sections = holds_after_put str_eq_ignore_ascii_case IsSection d i.sections s f (h (lookup str_eq_ignore_ascii_case d s) (λ g e. holds_of_found str_eq_ignore_ascii_case IsSection d i.sections s g e));
     }
 

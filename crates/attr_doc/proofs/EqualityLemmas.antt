@@ -2,10 +2,9 @@
 use Rattle.std.proofs.{Common.{rules, sym, ap, ◌∙◌, arith, true≢false}, lemmas.Slice.Eq.bytes_eq-Decides}
 use Rattle.std.specs.Prelude.{◌≡◌, ◌↔◌, ℕ, Bool, true, List, [], ◌∷◌, None, Option, Some, String, IsTrue, option_map, string_bytes, string_eq, refl}
 use Rattle.std.specs.{Cmp.{IsEquivalence, on_equiv}, Option.option_eq, Str.str_eq_ignore_ascii_case, declared.alloc.Global.Global}
-use Rattle.vecmap_base.proofs.EqualityLemmas.Maps.{map_equality_laws}
 use Rattle.vecmap.specs.{Equality.has_same_counts, Pairs.lookup}
-use Rattle.vecmap_laws.proofs.{EachValue.{holds_of_found, lookup_map_values}, MapEquality.equal_where_lookups_agree}
-use Rattle.vecmap_laws.proofs.{Lookups.look, Queries.string_equality}
+use Rattle.vecmap_laws.proofs.{EachValue.{holds_of_found, lookup_map_values}, Lookups.look, Queries.string_equality}
+use Rattle.vecmap_laws.proofs.MapEquality.{equal_where_lookups_agree, map_equality_laws}
 use Rattle.attr_doc.specs.Documents.{IsDocument, IsSection, Section, Stored, ignoring_case_equiv, sections_of, text_of}
 use Rattle.attr_doc.proofs.{DocumentLemmas.names_apart, TextLemmas.{text_at, text_in, text_of_sections}}
 

@@ -9,6 +9,8 @@ use Rattle.vecmap_base.specs.Pairs.{HasDistinctKeys, lookup}
 use Rattle.vecmap_base.proofs.DistinctLemmas.Absent.{none_equal}
 use Rattle.vecmap_base.proofs.EqualityLemmas.{Counts.{as_often, counts_from_test, many_cons, test_from_counts}, Maps.{counts_as_often, same_pair_laws}, Partial.{partial_map_equal_by_half, partial_map_lengths_differ}}
 use Rattle.vecmap_laws.{proofs.Lookups.{look, lookup_absent, lookup_congr}, specs.Agreement.{agrees, lookups_agree}}
+-- For crates that name `vecmap` and the laws alone.
+pub use Rattle.vecmap_base.proofs.EqualityLemmas.Maps.{map_equality_laws}
 
 module _ {X : Type 0} (same : X → X → Bool) (o : IsEquivalence same) where
   -- The order of a list makes no difference.
