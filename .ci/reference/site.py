@@ -1,7 +1,6 @@
 """Makes the site by rustdoc from the Rust forms, writes contracts and true sources to it, and checks it."""
 
 import functools
-import hashlib
 import html
 import os
 import re
@@ -9,7 +8,7 @@ import shutil
 import tempfile
 import urllib.parse
 
-from rattle import DEFINED, dependencies, files, kit, read, run, sources, specs, write
+from rattle import DEFINED, dependencies, files, read, run, sources, specs, write
 from reference.contracts import BLOCKS, FAULTS
 from reference.forms import definition_form, definitions_of_std, doc, found_by, rust_of
 from reference.names import rows
@@ -167,14 +166,6 @@ def link_faults(texts, out):
                 yield f"reference: {page} has the link {target}, which leads nowhere"
 
 
-def picture_faults(text):
-    """Says whether README's picture shows another text of `insert` than the page of maps."""
-    shown = re.search(r'id="method\.insert".*?(?= id="method\.\w+")', text, re.DOTALL)[0]
-    made = hashlib.sha256(re.sub(r"<[^>]*>|\s", "", shown).encode()).hexdigest()[:16]
-    if made != "ea0dae2bb9dfb201" and os.path.isdir(kit()):
-        yield f"docs/call.png: it shows another text; take it anew, and write {made} into site.py"
-
-
 def make(work, out):
     """Makes the forms in one folder and the site in another. Returns the faults."""
     forms = write_forms(work)
@@ -204,7 +195,7 @@ def make(work, out):
     # Nobody else can name the trait `Predicate`.
     lost = [f"{it.where} is not on the site" for it in BLOCKS if not it.place and not it.title.startswith("Predicate")]
     asked = run(f"node '{HERE}/search.js' {out}").stdout.splitlines() if shutil.which("node") else []
-    return [*FAULTS, *lost, *asked, *link_faults(texts, out), *picture_faults(texts["vecmap/struct.VecMap.html"])]
+    return [*FAULTS, *lost, *asked, *link_faults(texts, out)]
 
 
 def check(folder):
