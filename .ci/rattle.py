@@ -36,8 +36,9 @@ PARTS = re.compile(r"([^\s,{}](?:[^,{}\n]*))(?:\{((?:[^{}]|\{[^{}]*\})*)\})?")
 IMPL = re.compile(r"impl(?:<(?:->|[^<>]|<(?:->|[^<>]|<[^<>]*>)*>)*>)? (?:(.*) for )?(.*?)(?: where.*)?")
 # A definition: its line, its name, the lines of its comment, and its text, which begins with the modules that it is in.
 Definition = collections.namedtuple("Definition", "line name comment text")
-# A block of code: the line that opens it, the words there, its lines, and those of the comment right above it.
-Block = collections.namedtuple("Block", "line mark lines above")
+# A block of code: the line that opens it, the words there, its lines, those of the comment right above it, and the path
+# of a user's file, if the first line of these has one.
+Block = collections.namedtuple("Block", "line mark lines above file")
 BLOCK = re.compile(r"^(?:<!-- ((?:(?!-->)(?:.|\n))*?)\s*-->\n)?```(.*)\n((?:.*\n)*?)```$", re.MULTILINE)
 # The words that begin a line of the script that is no row, but sets the collections up.
 SET_UP = "map repeats set spare other swap again clones_fail".split()
@@ -184,14 +185,9 @@ def blocks(path):
     """Yields the blocks of code of a page, or of the doc comments of a source."""
     text = re.sub(r"^ *//[/!] ?", "", read(path), flags=re.MULTILINE) if path.endswith(".rt") else read(path)
     for found in BLOCK.finditer(text):
-        line = text.count("\n", 0, found.start(2)) + 1
-        yield Block(line, found[2], found[3].splitlines(), (found[1] or "").splitlines())
-
-
-def users_file(block):
-    """Returns the path of a block that is a file of a user's repository: its first line, or that above it, has it."""
-    found = re.fullmatch(r"(?:(?://|--|#) )?(crates[./]\S+)", [*block.above, *block.lines, ""][0])
-    return found[1] if found else ""
+        above, lines = (found[1] or "").splitlines(), found[3].splitlines()
+        file = re.fullmatch(r"(?:(?://|--|#) )?(crates[./]\S+)", [*above, *lines, ""][0])
+        yield Block(text.count("\n", 0, found.start(2)) + 1, found[2], lines, above, file and file[1])
 
 
 def calls_of(row):
