@@ -13,7 +13,7 @@ import textwrap
 
 from rattle import NAME
 from laws_for import braced, closing
-from reference.names import definition, file_of, names_in, path_of, rows
+from reference.names import definition, names_in, path_of, rows
 
 # What begins a line: a clause with its label, a field, or a member. No name there is a link.
 OPENING = re.compile(r" *(?:(requires\*?|ensures\*?|ghost|pub) (?:(\w+)(?= \{| :|:| =))?)?")
@@ -21,7 +21,7 @@ TOKEN = re.compile(
     r"(?P<comment>//.*|--.*)|(?P<sign>[^\w\s(){}\[\].,;:'\"]+)|(?<![\w.'])[A-Za-z_][\w'-]*(?:\.[A-Za-z_][\w']*)*"
 )
 # The names that a text binds, after `λ` and before `:`, which lead nowhere. Then those of fields.
-BOUND = re.compile(r"λ ([\w' ]+)\.(?= |$)|[({] ?([\w' ]+) :")
+BOUND = re.compile(r"λ ([\w' ]+)\.|[({]([\w' ]+) :")
 GIVEN = re.compile(r"^([^=:→]*?) =(?= |$)|[{;] ?([\w']+) =(?= )|^ *(?:pub )?([\w' -]+) :", re.MULTILINE)
 CLAUSE = re.compile(r"^ *(?:requires|ensures)\*? (?:\w+ )?\{", re.MULTILINE)
 # A field of a record, or a comment above some. Then one that says what a whole value is.
@@ -31,9 +31,7 @@ WHOLE = re.compile(r"([\w']+)[\w.]* ≡ [^→]*")
 FOLLOWS = "What follows for lookups, lengths and indices."
 OWN_WORDS = "_ Self self result where abbrev pub data record module".split()
 # A word of a formula, or what stands in parentheses.
-WORD = re.compile(r"\((?:[^()]|\((?:[^()]|\([^()]*\))*\))*\)(?:\.\w+)*|[^\s()]+")
-# What is said of a result before a clause that holds only if it has this form.
-RESULT = re.compile(r"(OnOk|IfOk|OnErr|IfErr|OnSome|IfSome) result (\(.*\))")
+WORD = re.compile(r"\((?:[^()]|\((?:[^()]|\([^()]*\))*\))*\)|[^\s()]+")
 FAULTS, BLOCKS = [], []
 
 
@@ -45,7 +43,7 @@ def bound_in(text, form):
 
 def bare(text):
     """Returns a formula without parentheses around the whole."""
-    return text[1:-1] if len(WORD.findall(text)) == 1 and text[:1] + text[-1:] == "()" else text
+    return text[1:-1] if text[:1] == "(" and WORD.fullmatch(text) else text
 
 
 def split(formula, sign):
@@ -57,7 +55,7 @@ def split(formula, sign):
 def parameters(name, text):
     """Returns the names of the explicit parameters of a definition, or the patterns that it has in their place."""
     heads = " ".join(it for it in text.splitlines() if re.match(r" *(?:module|pub record) ", it))
-    left = re.search(rf"^ *{name} (.*?) =(?: |$)", text, re.MULTILINE)
+    left = re.search(rf"^ *{re.escape(name)} (.*?) =(?: |$)", text, re.MULTILINE)
     found = [it for group in re.findall(r"\(([\w' ]+) :", heads) for it in group.split()]
     return found + WORD.findall(re.sub(r"\{[^}]*\}", "", left[1] if left else ""))
 
@@ -65,13 +63,12 @@ def parameters(name, text):
 def sentence(formula, about):
     """Returns the sentence of a definition with the arguments of a formula in it, or nothing."""
     name, *arguments = WORD.findall(formula)
-    told, text = about(name)
-    names = parameters(name, text) if told else []
+    told, text, _ = about(name)
+    names = parameters(name, text)
     is_phrase = re.match(r"`|that |What |[Tt]he same\b|[Ww]here |The capacity after ", told)
-    if not told or is_phrase or len(names) != len(arguments):
+    if is_phrase or len(names) != len(arguments):
         return ""
-    letters = (it for it in re.findall("`([b-z])`", told) if it not in names)
-    given = {it if re.fullmatch(r"[\w']+", it) else next(letters, it): bare(of) for it, of in zip(names, arguments)}
+    given = dict(zip(names, map(bare, arguments)))
     if query := re.fullmatch(r"(?:Q\.equivalent|has_text) ([\w.]+)", given.get("test", "")):
         told = told.replace("passes the test", f"matches `{query[1]}`")
     within = lambda it: re.sub(r"[a-z]\w*", lambda word: given.get(word[0], word[0]), it[0])
@@ -79,25 +76,25 @@ def sentence(formula, about):
     said = re.sub(r"`[^`]*`|(?<![\w'])[b-z](?![\w'])", put, told).rstrip(".")
     lists = [it for it in arguments if re.fullmatch(r"[\w.]+\.(?:entries|elements)", it)]
     said += f" in `{lists[0]}`" if len(lists) == 1 and not {lists[0], ","} & {*re.split("(,)|`", said)} else ""
-    unsaid = [it for it in map(bare, arguments) if re.search("[ (]", it) and "." not in it and it not in said]
+    unsaid = [it for it in map(bare, arguments) if " " in it and "." not in it and it not in said]
     is_said = not unsaid and (not lists or any(it in said for it in lists))
-    return said if is_said and not re.search(r"`(?:true|false)` is true|λ|\b[B-Z]\b", said) else ""
+    return said if is_said and not re.search(r"λ|\b[B-Z]\b", said) else ""
 
 
 def said(formula, about):
     """Returns what a formula says in words, or nothing. `about` returns the sentence and the text of a definition."""
     lower = lambda text: text[:1].lower() + text[1:]
-    if found := RESULT.fullmatch(formula):
+    if found := re.fullmatch(r"(?:If|On)(\w+) result (\(.*\))", formula):
         name, inner = re.fullmatch(r"(?:λ (\w+)\. )?(.*)", bare(found[2])).groups()
-        form = f"`{found[1][2:]}({name})`" if name else f"`{found[1][2:]}`"
+        form = f"`{found[1]}({name})`" if name else f"`{found[1]}`"
         rest = said(inner, about)
         return rest and ("If the result is " if "Some" in form else "On ") + f"{form}, {lower(rest)}"
     *premises, last = split(formula, "→")
     if premises:
         *conditions, last = parts = [said(it, about) for it in [*(it for it in premises if " : " not in it), last]]
-        is_said = all(parts) and len({*parts}) == len(parts) and ". " not in "".join(conditions)
-        premise = "If {}, then ".format(" and ".join(map(lower, conditions))) if conditions else ""
-        return premise + (lower(last) if premise else last) if is_said else ""
+        if not all(parts) or len({*parts}) < len(parts) or ". " in "".join(conditions):
+            return ""
+        return f"If {' and '.join(map(lower, conditions))}, then {lower(last)}" if conditions else last
     left, *right = split(formula, "≡")
     if len(right) == 1 and not re.search("[λ×⊎]", formula):
         value = sentence(right[0], about)
@@ -108,8 +105,8 @@ def said(formula, about):
 
 def inner(formula):
     """Returns what a formula says without its premises, and of the value that a result has."""
-    if found := re.fullmatch(r"If\w+ \S+ (\(λ .*\))|On\w+ result (\(.*\))", formula):
-        return inner(re.sub(r"^λ \w+\. ", "", bare(found[1] or found[2])))
+    if found := re.fullmatch(r"(?:If|On)\w+ \S+ (\(.*\))", formula):
+        return inner(re.sub(r"^λ \w+\. ", "", bare(found[1])))
     *premises, last = split(formula, "→")
     return inner(last) if premises else formula
 
@@ -168,7 +165,7 @@ class Names:
         """Returns a name, a sign or a comment in HTML."""
         if not found["comment"] and not found["sign"]:
             return self.name(found[0])
-        if found["sign"] and found[0].strip("◌") not in {*rows(), ""}:
+        if found["sign"] and found[0].strip("◌") not in rows():
             FAULTS.append(f"{self.where}: contracts.md has no `{found[0]}`")
         return html.escape(found[0], quote=False)
 
@@ -187,7 +184,7 @@ class Names:
         """Returns of each field of a record if it says what a whole value is, its line, and its own fields."""
         name, *arguments = WORD.findall(inner(formula)) or [""]
         path, found = self.target(name), []
-        text, file = definition(path)[1], file_of(path)
+        _, text, file = definition(path)
         _, is_record, own = text.partition(f"pub record {name} ")
         names = parameters(name, text) if is_record and path[:5] != "std::" else []
         if unsaid := len(names) - len(arguments):  # Within a module its parameters are not written.
@@ -196,7 +193,7 @@ class Names:
             given = dict(zip(names, arguments))
             leads = {it: self.leads[it] for it in NAME.findall(formula) if it in self.leads}
             names = Names(file, self.where, text, " ".join([formula, *self.known]), leads)
-            for label, told, comment in FIELD.findall(own.partition(" where\n")[2]):
+            for label, told, comment in FIELD.findall(own):
                 line = comment or f"{above}{label} : {TOKEN.sub(names.token, put_in(told, given))}"
                 is_whole = bool(match := WHOLE.fullmatch(told)) and match[1] in given
                 below = names.fields(put_in(told, given), f"{above}{label}.", given) if told else []
@@ -223,10 +220,10 @@ class Block:
         text = textwrap.dedent(text).strip("\n")
         made = [names.line(it) for it in text.splitlines()]
         for clause in CLAUSE.finditer(text):
-            formula, is_first = braced(text, clause.end()), "ensures" not in text[: clause.start()]
-            words, aloud = (said(formula, it) for it in (lambda it: definition(names.target(it)), lambda _: ("", "")))
-            words = "" if words == aloud else words
-            words = words or told * (is_first and clause[0].strip().startswith("ensures"))
+            formula, is_first = braced(text, clause.end()), text.find("ensures") in range(*clause.span())
+            words = said(formula, lambda it: definition(names.target(it)))
+            if not words or words == said(formula, lambda _: ("", "", "")):  # The clause read aloud says as much.
+                words = told if is_first else ""
             words = re.sub("`(.*?)`", r"<code>\1</code>", html.escape(words[:1].upper() + words[1:], quote=False))
             first, last = (text.count("\n", 0, it) for it in (clause.start(), closing(text, clause.end())))
             made[first] = f'<span class="said">{words.rstrip(".")}.</span>\n' * bool(words) + made[first]

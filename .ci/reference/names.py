@@ -34,8 +34,8 @@ def rows(of_labels=False):
 def fixed():
     """Returns where the words of the logic lead, and the members of traits, such as `.equivalent` of `Q.equivalent`."""
     found = {it: f"contracts#{it}" for it in rows()}
-    for trait in (it for path in sources(*DEFINED) for it in items(path) if it.kind == "trait" and it.is_public):
-        names = re.findall(r"^    (?:fn|ghost|type) (\w+)", trait.members, re.MULTILINE)
+    for trait in (it for path in sources(*DEFINED) for it in items(path) if it.kind == "trait"):
+        names = re.findall(r"^    (?:ghost|type) (\w+)", trait.members, re.MULTILINE)
         found |= {f".{it}": f"{crate_of(trait.path)}::{trait.name}" for it in names}
     return found
 
@@ -73,7 +73,7 @@ def path_of(place, name):
     crate, _, rest = place.removeprefix("Rattle.").partition(".")
     path, otherwise = f"{crate}.{rest}.{name}".replace(".", "::"), fixed().get(name, "")
     if crate in DEFINED:
-        return path if re.match(r"specs\.(?!contracts|formers|declared)", rest) else otherwise
+        return path if re.match(r"specs\.(?!contracts)", rest) else otherwise
     found = look_up(place, name)
     key = found and (found[0], found[1].name, name)
     if found and path.startswith("std::specs::"):
@@ -96,14 +96,11 @@ def look_up(place, name):
     return next((look_up(it, its) for alias, it, its in imports(path) if alias == name), None)
 
 
-def file_of(path):
-    """Returns the file that has the definition with a path, which need not be there."""
-    return OF_KIT[path][0] if path in OF_KIT else f"crates/{path.rpartition('::')[0].replace('::', '/')}.antt"
-
-
 @functools.cache
 def definition(path):
-    """Returns the sentence on a definition, and its text, or nothing twice."""
-    own = [it for it in definitions(file_of(path)) if it.name == path.rpartition("::")[2]]
-    found = [*OF_KIT.get(path, ())[1:], *own]
-    return ("".join(found[0].comment[-1:]), found[0].text) if found else ("", "")
+    """Returns the sentence on a definition, its text, and its file, or nothing thrice."""
+    home, _, name = path.rpartition("::")
+    file = f"crates/{home.replace('::', '/')}.antt"
+    own = ((file, it) for it in definitions(file) if it.name == name)
+    file, found = OF_KIT.get(path) or next(own, ("", None))
+    return ("".join(found.comment[-1:]), found.text, file) if found else ("", "", "")
