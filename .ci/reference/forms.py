@@ -15,7 +15,7 @@ from reference.names import OF_KIT, module_of
 
 GHOST = re.compile(r"(?:^ +//(?!/).*\n)*^ +ghost (?!use)\w+(?: = |: )\{", re.MULTILINE)
 # Where the contract of a function begins: at a clause, with comments above it.
-CONTRACT = re.compile(r"^(?=(?: *//.*\n|\n)* *(?:requires|ensures)\b)", re.MULTILINE)
+CONTRACT = re.compile(r"^(?=(?: *//.*\n)* *(?:requires|ensures)\b)", re.MULTILINE)
 MODULES = re.compile(r"(?:^(?:pub )?mod \w+;\n)+", re.MULTILINE)
 PASSED_ON = re.compile(r"^pub use Rattle\.(\w+)\.specs\.(\w+)(?: as (\w+))?$", re.MULTILINE)
 # Words and signs by which a search finds calls and guides, too.
@@ -55,8 +55,8 @@ def aliases(item, contract):
     which = table_rows(read("crates/vecmap/CALLING.md").partition("\n## Which call\n")[2].partition("\n## ")[0])
     found = {word for told, calls, *_ in which if f"`{item.name}`" in calls for word in re.findall(r"[a-z]{5,}", told)}
     for label in re.findall(r"^ *requires (?:(\w+) )?\{", contract, re.MULTILINE):
-        found |= {"precondition", f"{item.name}-requires", f"{item.name}-requires" + f"-clause-{label}" * bool(label)}
-        found |= {label} - {""}
+        found |= {"precondition", f"{item.name}-requires"}
+        found |= {label, f"{item.name}-requires-clause-{label}"} if label else set()
     return found_by(f"{owner_of(item)}::{item.name}", *found - {item.name})
 
 
@@ -66,7 +66,7 @@ def contract_of(item, text, given):
     if item.kind != "impl":
         home = item.path.split("/")[3].removesuffix(".rt") if crate_of(item.path) == LAWS else ""
         title = "::".join(filter(None, [home, owner_of(item), item.name]))
-    told = re.sub(r"\[(`.*?`)\]", r"\1", laws_for.about(item)) if item.kind == "fn" and item.is_public else ""
+    told = re.sub(r"\[(`.*?`)\]", r"\1", laws_for.about(item)) if item.is_public else ""
     block = Block(item.path, item.line, title, text, given, told=told)
     return doc("\n# Contract\n" * bool(text.strip()) + block.mark)
 
@@ -77,7 +77,7 @@ def function_form(item):
     signature, contract = [*CONTRACT.split(head, maxsplit=1), ""][:2]
     is_shown = item.is_call() and (item.doc() or contract and " for " in item.impl)
     about = aliases(item, contract) + (contract_of(item, contract, signature) if is_shown else "")
-    made = f"{about}{re.sub('//.*', '', signature).strip()} {';' if item.text.endswith(';') else '{ loop {} }'}"
+    made = f"{about}{signature.strip()} {';' if item.text.endswith(';') else '{ loop {} }'}"
     return made + blank(item.text).removeprefix(blank(made))
 
 
@@ -107,7 +107,7 @@ def rust_of(path):
         made = (function_form if item.kind == "fn" else block_form)(item).split("\n")
         lines[item.line - 1 : item.line - 1 + len(made)] = made
     topics = read(f"crates/vecmap/src/{crate.removeprefix('vecmap_')}.rt")
-    by_topic = lambda it: (topics.find(f"`{it.split()[-1][:-1]}.rt`") % 10**6, it)
+    by_topic = lambda it: (topics.find(f"`{it.split()[-1][:-1]}.rt`"), it)
     text = MODULES.sub(lambda it: "".join(sorted(it[0].splitlines(True), key=by_topic)), "\n".join(lines))
     stem = "" if module_of(path) == crate else f"{os.path.basename(path)[:-3]}/"
     text = re.sub(r"^(pub(?:\(\w+\))? )?mod (\w+);", rf'#[path = "{stem}\2.rt"] \1mod \2;', text, flags=re.MULTILINE)
