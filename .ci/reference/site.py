@@ -130,20 +130,15 @@ class Pages:
 
     def fill(self, page):
         """Returns the text of a page with its contracts, and below a definition what names it."""
-        folder, place, own = os.path.dirname(page), "", ""
-        relative = lambda target: target if "://" in target else os.path.relpath(target, folder)
-
-        def put(found):
-            nonlocal place, own
-            if found[1]:
-                place = f"{found[1]}."
-                return found[0]
-            own = BLOCKS[int(found[2])].own
-            text = BLOCKS[int(found[2])].html.replace('id="@', f'id="{place}')
-            text = re.sub(r'href="@([^"]*)', lambda it: f'href="{relative(self.target(it[1]))}', text)
-            return f'<div class="contract">{text}</div>' if text else ""
-
-        text = PLACE.sub(put, self.texts[page])
+        text, place, own = self.texts[page], "", ""
+        relative = lambda target: target if "://" in target else os.path.relpath(target, os.path.dirname(page))
+        for mark, anchor, number in ((it[0], it[1], it[2]) for it in PLACE.finditer(text)):
+            if anchor:
+                place = f"{anchor}."
+            else:
+                own, made = BLOCKS[int(number)].own, BLOCKS[int(number)].html.replace('id="@', f'id="{place}')
+                made = re.sub(r'href="@([^"]*)', lambda it: f'href="{relative(self.target(it[1]))}', made)
+                text = text.replace(mark, f'<div class="contract">{made}</div>' if made else "", 1)
         how = f'<a class="how" href="{relative("vecmap/contracts/index.html")}">how to read it</a>'
         text = re.sub(r'(<h\d id="contract(?:-\d+)?">.*?)(?=</h\d>)', rf"\1 {how}", text)
         named = {"Calls": "", "Laws": "", "Definitions": ""}
