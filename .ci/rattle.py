@@ -33,7 +33,7 @@ USE = re.compile(r"^ *((?:pub |ghost )?(?:use|mod) )((?:[^;{\n]|\{(?:[^{}]|\{[^{
 # A part of an import: a path, or names in braces behind one.
 PARTS = re.compile(r"([^\s,{}](?:[^,{}\n]*))(?:\{((?:[^{}]|\{[^{}]*\})*)\})?")
 # The head of an `impl`: its parameters, which may have bounds with parameters, the trait if there is one, and the type.
-IMPL = re.compile(r"impl(?:<(?:->|[^<>]|<(?:->|[^<>]|<[^<>]*>)*>)*>)? (?:(.*) for )?(.*?)(?: where.*)?")
+IMPL = re.compile(r"impl(?:<(?:->|[^<>]|<[^<>]*>)*>)? (?:(.*) for )?(.*?)(?: where.*)?")
 # A definition: its line, its name, the lines of its comment, and its text, which begins with the modules that it is in.
 Definition = collections.namedtuple("Definition", "line name comment text")
 # A block of code: the line that opens it, the words there, its lines, those of the comment right above it, and the path
@@ -118,12 +118,6 @@ def sources(*crates):
 def specs(crate):
     """Returns the files of the definitions of a crate. Those in `formers/` are for the kit, which looks for them."""
     return [it for it in files(f"crates/{crate}/specs/**/*.antt") if "/formers" not in it]
-
-
-def dependencies():
-    """Returns the crates of this repository, in order, each with those that it depends on."""
-    lines = re.findall(r"^(\w+)(?: staticlib)?:(.*)", read("crates.txt"), re.MULTILINE)
-    return {name: needs.split() for name, needs in lines}
 
 
 @functools.cache

@@ -2,13 +2,14 @@
 
 import functools
 import html
+import itertools
 import os
 import re
 import shutil
 import tempfile
 import urllib.parse
 
-from rattle import DEFINED, dependencies, files, read, run, sources, specs, write
+from rattle import DEFINED, files, read, run, sources, specs, write
 from reference.contracts import BLOCKS, FAULTS
 from reference.forms import definition_form, definitions_of_std, doc, found_by, rust_of
 from reference.names import rows
@@ -31,8 +32,8 @@ def build(crate, work, out):
     """Makes what the crates above need of a crate, and its pages."""
     version = re.search(r"Version \d+", read("CHANGELOG.md"))[0].lower()
     version += ", " + run("git rev-parse --short=8 HEAD 2>/dev/null").stdout.strip()
-    needs = {"std": STD, **{it: it for it in dependencies()[crate]}} if crate != STD else {}
-    externs = " ".join(f"--extern={name}=lib{it}.rmeta" for name, it in needs.items())
+    below = [f"std=lib{STD}", *(f"{it}=lib{it}" for it in itertools.takewhile(crate.__ne__, DEFINED))]
+    externs = " ".join(f"--extern={it}.rmeta" for it in below if crate != STD)
     pages = f"rustdoc --extend-css='{HERE}/reference.css' --crate-version='{version}' -o{out} "
     pages += DENIED if crate != STD else "-Arustdoc::all"
     for command in ("rustc --crate-type=lib --emit=metadata -Awarnings", pages):
