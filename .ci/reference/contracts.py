@@ -200,6 +200,22 @@ class Names:
                 found.append((is_whole, line, below))
         return found
 
+    def block(self, text, told=""):
+        """Returns a text in HTML. Above a clause is what it says, and below it are the fields of its record."""
+        text = textwrap.dedent(text).strip("\n")
+        made = [self.line(it) for it in text.splitlines()]
+        for clause in CLAUSE.finditer(text):
+            formula, is_first = braced(text, clause.end()), text.find("ensures") in range(*clause.span())
+            words = said(formula, lambda it: definition(self.target(it)))
+            if not words or words == said(formula, lambda _: ("", "", "")):  # The clause read aloud says as much.
+                words = told if is_first else ""
+            words = re.sub("`(.*?)`", r"<code>\1</code>", html.escape(words[:1].upper() + words[1:], quote=False))
+            first, last = (text.count("\n", 0, it) for it in (clause.start(), closing(text, clause.end())))
+            made[first] = f'<span class="said">{words.rstrip(".")}.</span>\n' * bool(words) + made[first]
+            if below := details(self.fields(formula)):
+                made[last] += f'</pre><div class="fields">{below}</div><pre>'
+        return f"<pre>{chr(10).join(made)}</pre>" * bool(text)
+
 
 class Block:
     """A contract, or a definition with its own path: its HTML, the paths that it names, and its place on the site."""
@@ -208,25 +224,7 @@ class Block:
         self.path, self.title, self.own, self.where = path, title, own, f"{path}:{line}: {title}"
         self.place, self.mark = "", f'\n<div class="contract">{len(BLOCKS)}</div>\n'
         names, (first, _, folded) = Names(path, self.where, text, given, (), own), text.partition(f"// {FOLLOWS}\n")
-        self.names, self.html = names.named, self.write(first, names, told)
+        self.names, self.html = names.named, names.block(first, told)
         if folded:
-            made = self.write(folded, names)
-            self.html += f'<details class="follows"><summary>{FOLLOWS}</summary>{made}</details>'
+            self.html += f'<details class="follows"><summary>{FOLLOWS}</summary>{names.block(folded)}</details>'
         BLOCKS.append(self)
-
-    @staticmethod
-    def write(text, names, told=""):
-        """Returns a text in HTML. Above a clause is what it says, and below it are the fields of its record."""
-        text = textwrap.dedent(text).strip("\n")
-        made = [names.line(it) for it in text.splitlines()]
-        for clause in CLAUSE.finditer(text):
-            formula, is_first = braced(text, clause.end()), text.find("ensures") in range(*clause.span())
-            words = said(formula, lambda it: definition(names.target(it)))
-            if not words or words == said(formula, lambda _: ("", "", "")):  # The clause read aloud says as much.
-                words = told if is_first else ""
-            words = re.sub("`(.*?)`", r"<code>\1</code>", html.escape(words[:1].upper() + words[1:], quote=False))
-            first, last = (text.count("\n", 0, it) for it in (clause.start(), closing(text, clause.end())))
-            made[first] = f'<span class="said">{words.rstrip(".")}.</span>\n' * bool(words) + made[first]
-            if below := details(names.fields(formula)):
-                made[last] += f'</pre><div class="fields">{below}</div><pre>'
-        return f"<pre>{chr(10).join(made)}</pre>" * bool(text)
