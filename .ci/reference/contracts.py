@@ -12,7 +12,7 @@ import re
 import textwrap
 
 from rattle import NAME
-from laws_for import braced, closing
+from laws_for import CLAUSE, braced, closing
 from reference.names import definition, names_in, path_of, rows
 
 # What begins a line: a clause with its label, a field, or a member. No name there is a link.
@@ -23,7 +23,6 @@ TOKEN = re.compile(
 # The names that a text binds, after `λ` and before `:`, which lead nowhere. Then those of fields.
 BOUND = re.compile(r"λ ([\w' ]+)\.|[({]([\w' ]+) :")
 GIVEN = re.compile(r"^([^=:→]*?) =(?= |$)|[{;] ?([\w']+) =(?= )|^ *(?:pub )?([\w' -]+) :", re.MULTILINE)
-CLAUSE = re.compile(r"^ *(?:requires|ensures)\*? (?:\w+ )?\{", re.MULTILINE)
 # A field of a record, or a comment above some. Then one that says what a whole value is.
 FIELD = re.compile(r"^ *(?:pub ([\w']+) : (.*)|(--.*))$", re.MULTILINE)
 WHOLE = re.compile(r"([\w']+)[\w.]* ≡ [^→]*")

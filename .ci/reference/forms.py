@@ -48,13 +48,13 @@ def found_by(name, *words):
     return "".join(f'#[doc(alias = "{it}")] ' for it in sorted({*words, *ALSO.get(name, "").split()}))
 
 
-def aliases(item, contract):
+def aliases(item):
     """Returns attributes by which a search finds a call of a library: words of its purposes, and its goals."""
     if not (item.is_call() and crate_of(item.path) in LIBRARIES):
         return ""
     which = table_rows(read("crates/vecmap/CALLING.md").partition("\n## Which call\n")[2].partition("\n## ")[0])
     found = {word for told, calls, *_ in which if f"`{item.name}`" in calls for word in re.findall(r"[a-z]{5,}", told)}
-    for label in re.findall(r"^ *requires (?:(\w+) )?\{", contract, re.MULTILINE):
+    for label in (it.label for it in item.clauses() if it.kind == "requires"):
         found |= {"precondition", f"{item.name}-requires"}
         found |= {label, f"{item.name}-requires-clause-{label}"} if label else set()
     return found_by(f"{owner_of(item)}::{item.name}", *found - {item.name})
@@ -76,7 +76,7 @@ def function_form(item):
     head = re.sub(r"\s*(?:\{\}|;)\Z", "", item.head())
     signature, contract = [*CONTRACT.split(head, maxsplit=1), ""][:2]
     is_shown = item.is_call() and (item.doc() or contract and " for " in item.impl)
-    about = aliases(item, contract) + (contract_of(item, contract, signature) if is_shown else "")
+    about = aliases(item) + (contract_of(item, contract, signature) if is_shown else "")
     made = f"{about}{signature.strip()} {';' if item.text.endswith(';') else '{ loop {} }'}"
     return made + blank(item.text).removeprefix(blank(made))
 
