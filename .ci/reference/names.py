@@ -3,8 +3,7 @@
 import functools
 import re
 
-import rattle
-from rattle import DEFINED, crate_of, definitions, items, kit, read, sources, table_rows
+from rattle import DEFINED, crate_of, definitions, imports, items, kit, read, sources, table_rows
 
 # The place that the logic has for a type of a program, or for its variants.
 DECLARED = re.compile(r"Rattle\.(\w+)\.specs\.declared\.(?:[a-z_]+\.)*([A-Z]\w*)(\.TheVariants)?")
@@ -40,10 +39,10 @@ def fixed():
     return found
 
 
-def imports(path):
+def imported(path):
     """Yields what a file imports: the name there, the place that it is from, and its name there."""
     text = read(path)
-    for _, it in rattle.imports(path):
+    for _, it in imports(path):
         module, _, alias = it.partition(" as ")
         place, _, name = module.rpartition(".")
         yield alias or name, place, name
@@ -58,7 +57,7 @@ def names_in(path):
     found = fixed() | {it: fixed().get(f".{it}", "") for it in re.findall(r"^    ghost (\w+): \{", text, re.MULTILINE)}
     found |= dict.fromkeys(re.findall(r"^ *([\w'-]+) : .*≡", text, re.MULTILINE), "")
     found |= {it.name: (place, it.name) for it in definitions(path)}
-    return found | {alias: (place, name) for alias, place, name in imports(path)}
+    return found | {alias: (place, name) for alias, place, name in imported(path)}
 
 
 @functools.cache
@@ -93,7 +92,7 @@ def look_up(place, name):
     path = f"{home}/{rest.replace('.', '/')}.antt"
     if own := [it for it in definitions(path) if it.name == name]:
         return path, own[0]
-    return next((look_up(it, its) for alias, it, its in imports(path) if alias == name), None)
+    return next((look_up(it, its) for alias, it, its in imported(path) if alias == name), None)
 
 
 @functools.cache
