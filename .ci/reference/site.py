@@ -1,6 +1,5 @@
 """Makes the site by rustdoc from the Rust forms, writes contracts and true sources to it, and checks it."""
 
-import functools
 import html
 import itertools
 import os
@@ -43,21 +42,15 @@ def build(crate, work, out):
             raise SystemExit(f"{ran.stdout}reference: {crate} has the faults above")
 
 
-@functools.cache
-def guides():
-    """Returns the pages that are guides on the site, each with the name of its module."""
-    return {it: os.path.basename(it)[:-3].lower() for it in files("crates/vecmap/*.md", "docs/*.md", "CHANGELOG.md")}
-
-
-def linked(page):
+def linked(page, guides):
     """Returns the text of a guide, in which links lead to places on the site. Files elsewhere are copied, as texts."""
 
     def link(found):
         path, sign, anchor = found[2].partition("#")
         path = os.path.relpath(os.path.join(os.path.dirname(page), path)) if path else page
         form, place = path.removeprefix("crates/").replace("/src/", "/"), ""
-        if path in guides():
-            place = f"vecmap/{guides()[path]}/index.html{sign}{anchor}"
+        if path in guides:
+            place = f"vecmap/{guides[path]}/index.html{sign}{anchor}"
         elif form.split("/")[0] in DEFINED and "/proofs/" not in form:
             place = f"src/{form}.html" if "/" in form else f"{form}/index.html"
         elif os.path.isfile(path):
@@ -78,7 +71,9 @@ def own_pages():
         "questions": "What a caller asks after a call, and what is proved.\n\n[PROVING](../proving/index.html#calls-"
         f"and-questions) says what a name or a number means.\n\n{run('.ci/questions list').stdout}",
     }
-    pages |= {name: linked(path) for path, name in guides().items()}
+    guides = files("crates/vecmap/*.md", "docs/*.md", "CHANGELOG.md")
+    guides = {path: os.path.basename(path)[:-3].lower() for path in guides}
+    pages |= {name: linked(path, guides) for path, name in guides.items()}
     about = {name: f"{found_by(name)}{doc(text)}#[allow(rustdoc::all)]" for name, text in pages.items()}
     return " ".join(f"{it} pub mod {name} {{}}" for name, it in about.items())
 
