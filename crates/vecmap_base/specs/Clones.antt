@@ -1,4 +1,5 @@
--- What it means that a list, a pair or an option is a clone of another, and that a clone cannot fail.
+-- What it means that a list, a pair or an option is a clone of another, and that a clone cannot fail. In the examples,
+-- `copy x y` says that `y` is `x`.
 use Rattle.std.specs.{Prelude.{◌≡◌, List, None, Option, Some, ⊤}, List.AllZip}
 use Rattle.std.specs.declared.clone.Clone as clone
 

@@ -16,14 +16,14 @@ module _ {K V : Type 0} where
     pub found : is_some r ≡ is_some (lookup_by test l)
     pub stored : option_and_then (value_at l) r ≡ lookup_by test l
 
-  -- Example: the pair `(2,b)` at the index 1 of `[(1,a), (2,b)]`.
+  -- Example: `IsFoundAt 1 [(1, a), (2, b)] 2 b`; `¬ (IsFoundAt 1 [(1, a), (2, b)] 3 b)` by `present (nat_eq 3) refl`.
   -- The pair `(k, v)` at the index `i` of the list `l` has a key that is present, and is found if all keys are distinct.
   pub record IsFoundAt (i : ℕ) (l : List (K × V)) (k : K) (v : V) : Type 0 where
     pub present : (test : K → Bool) → test k ≡ true → is_some (lookup_by test l) ≡ true
     pub value : (eq : K → K → Bool) → IsEquivalence eq → HasDistinctKeys eq l → lookup eq l k ≡ Some v
     pub index : (eq : K → K → Bool) → IsEquivalence eq → HasDistinctKeys eq l → index_of eq l k ≡ Some i
 
-  -- Example: from `[(1,a)]` to `[(1,b)]`.
+  -- Example: `KeepsIndices [(1, a)] [(1, b)]`; `¬ (KeepsIndices [(1, a)] [(2, a)])`.
   -- The list `m` has the keys of `l`, each at its index.
   pub record KeepsIndices (l m : List (K × V)) : Type 0 where
     pub keys : keys_of m ≡ keys_of l
@@ -32,7 +32,7 @@ module _ {K V : Type 0} where
     pub len : length m ≡ length l
     pub value : (test : K → Bool) (i : ℕ) → index_by test l ≡ Some i → value_at m i ≡ lookup_by test m
 
-  -- Example: from `[(1,a), (2,b), (3,c)]` to `[(1,a), (3,c)]` for the index 1.
+  -- Example: `ShiftsIndices 1 [(1, a), (2, b), (3, c)] [(1, a), (3, c)]`; `¬ (ShiftsIndices 1 [(1, a), (2, b)] [(2, b)])`.
   -- A match before the index `i` stays at its index, and one after it moves one index to the front.
   pub record ShiftsIndices (i : ℕ) (l m : List (K × V)) : Type 0 where
     -- The index of each match, by where it was.
@@ -43,7 +43,7 @@ module _ {K V : Type 0} where
     pub keys : keys_of m ≡ remove (keys_of l) i
     pub values : values_of m ≡ remove (values_of l) i
 
-  -- Example: from `[(1,a), (2,b)]` to `[(2,b), (1,a)]` for the indices 0 and 1.
+  -- Example: `MovesIndex 0 1 [(1, a), (2, b)] [(2, b), (1, a)]`; `¬ (MovesIndex 0 1 [(1, a), (2, b)] [(1, a), (2, b)])`.
   -- The pair at the index `i` of `l` is at the index `j` of `m`, and is found there if all keys are distinct.
   pub record MovesIndex (i j : ℕ) (l m : List (K × V)) : Type 0 where
     pub pair : slice_get m j ≡ slice_get l i

@@ -4,7 +4,8 @@ use Rattle.std.specs.Prelude.{◌≡◌, ◌++◌, ◌∷◌, ◌+◌, ◌-◌, 
 use Rattle.std.specs.Map.{keys_of}
 use Rattle.vecmap_base.specs.{Lookups.UpdatesBy, Pairs.{HasDistinctKeys, index_by, index_of, index_or_length, lookup, put, put_at, put_key}}
 
--- Example: from `[(1,a)]` to `[(1,a), (2,b)]` for the pair `(2,b)`.
+-- Example: `AddsKey nat_eq [(1, a)] 2 b [(1, a), (2, b)]`; `AddsKey nat_eq [(1, a)] 1 b [(1, b)]`.
+-- Example: `¬ (AddsKey nat_eq [(1, a)] 1 b [(1, a), (1, b)])`.
 -- The list `m` is the list `l` after an insertion of `(k, v)`: the value of `k` is `v`, at its index, or the pair is new and last.
 pub record AddsKey {K V : Type 0} (eq : K → K → Bool) (l : List (K × V)) (k : K) (v : V) (m : List (K × V)) : Type 0 where
   pub entries : m ≡ put eq l k v
@@ -20,7 +21,7 @@ pub record AddsKey {K V : Type 0} (eq : K → K → Bool) (l : List (K × V)) (k
   pub stay : IsSome (lookup eq l k) → (test : K → Bool) → index_by test m ≡ index_by test l
   pub same : (w : V) → IsSome (lookup eq l k) → v ≡ unwrap_or (lookup eq l k) w → m ≡ l
 
--- Example: from `[(1x,a)]` to `[(1y,b)]` for the pair `(1y,b)`.
+-- Example: `PutsKey eq [(1x, a)] 1y b [(1y, b)]`; `¬ (PutsKey eq [(1x, a)] 1y b [(1x, a), (1y, b)])`.
 -- The list `m` is the list `l` with `(k, v)` in place of the pair of an equal key, or at the end if there is none.
 pub record PutsKey {K V : Type 0} (eq : K → K → Bool) (l : List (K × V)) (k : K) (v : V) (m : List (K × V)) : Type 0 where
   pub entries : m ≡ put_key eq l k v
@@ -34,7 +35,7 @@ pub record PutsKey {K V : Type 0} (eq : K → K → Bool) (l : List (K × V)) (k
   pub len : length m ≡ (if is_some (lookup eq l k) then length l else length l + 1)
   pub keys : ((q : K) → eq k q ≡ true → q ≡ k) → keys_of m ≡ (if is_some (lookup eq l k) then keys_of l else keys_of l ++ k ∷ [])
 
--- Example: from `[(1,a)]` to `[(2,b), (1,a)]` for the pair `(2,b)` and the index 0.
+-- Example: `InsertsAt nat_eq 0 [(1, a)] 2 b [(2, b), (1, a)]`; `¬ (InsertsAt nat_eq 0 [(1, a)] 2 b [(1, a), (2, b)])`.
 -- The list `m` is the list `l` without an equal key, and with `(k, v)` at the index `i`, or at the end if it is shorter.
 pub record InsertsAt {K V : Type 0} (eq : K → K → Bool) (i : ℕ) (l : List (K × V)) (k : K) (v : V) (m : List (K × V)) : Type 0 where
   pub entries : m ≡ put_at eq l i k v

@@ -15,7 +15,7 @@ swap_without s i = option_map_or (λ x. swap_remove s i x) (slice_get s i) s
 abbrev pub moved : {T : Type 0} → List T → ℕ → ℕ → List T
 moved s from to = option_map_or (λ x. insert (remove s from) to x) (slice_get s from) s
 
--- Example: from `[a, b]` to `[b, a]`.
+-- Example: `IsReorderedItems [a, b] [b, a]`; `¬ (IsReorderedItems [a, b] [a])`.
 -- The list `r` has the elements of `s`, as far as tests, lengths and an equivalence can tell.
 pub record IsReorderedItems {T : Type 0} (s r : List T) : Type 0 where
   pub rearranged : IsPermutation s r

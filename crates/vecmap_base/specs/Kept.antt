@@ -1,4 +1,5 @@
--- What is left of a list if a closure is called for each item, in order, and decides which items stay.
+-- What is left of a list if a closure is called for each item, in order, and decides which items stay. In the examples,
+-- `keeps test` is a closure that keeps what passes a test, and `eq` sees of a pair the key alone.
 use Rattle.std.specs.Prelude.{◌≡◌, ℕ, ◌≤◌, Bool, true, List, [], ◌∷◌, None, Option, Some, drop, false, filter, if◌then◌else◌, length, not, take}
 use Rattle.std.specs.{Map.IsKeyTest, Option.option_and_then}
 use Rattle.vecmap_base.specs.{Pairs.{HasDistinctKeys, lookup_by}}
@@ -37,14 +38,15 @@ module _ {F K V : Type 0} (R : F → K × V → Bool → K × V → F → Type 0
   abbrev pub ReturnsAtValue : F → V → Bool → Type 0
   ReturnsAtValue f v kept = (p : K × V) (b : Bool) (q : K × V) (g : F) → R f p b q g → (p.1 ≡ v → (b ≡ kept) × (q.1 ≡ p.1)) × (g ≡ f)
 
-  -- Example: of a closure that keeps the values above 5: from `[(1,7), (2,4)]` to `[(1,7)]`.
+  -- Example: `Retains (keeps (eq (1, a))) tt [(1, b), (2, c)] [(1, b)]`; `¬ (Retains (keeps (eq (1, a))) tt [] [(1, b)])`.
   -- How many pairs of `l` the closure leaves in `m` from the state `f` on, and which if it only tests them.
   pub record Retains (f : F) (l m : List (K × V)) : Type 0 where
     pub len : length m ≤ length l
     pub filters : (keep : K × V → Bool) → TestsItems R f keep → m ≡ filter keep l
     pub same : (test : K → Bool) → lookup_by test l ≡ None → ReturnsAtKey f (λ k. not (test k)) true → KeepsKeys → m ≡ l
 
-  -- Example: of a closure that keeps the values above 5: from `[(1,7), (2,4)]` to `[(1,7)]`.
+  -- Example: `RetainsPairs (keeps (eq (1, a))) tt [(1, b), (2, c)] [(1, b)]`.
+  -- Example: `¬ (RetainsPairs (keeps (eq (1, a))) tt [] [(1, b)])`.
   -- The list `m` has the pairs of `l` for which the closure returned `true`, called in order from the state `f` on, as it left them.
   pub record RetainsPairs (f : F) (l m : List (K × V)) : Type 0 where
     pub retained : (g : F) × Kept R f l m g

@@ -7,7 +7,8 @@ use Rattle.std.specs.Map.{IsKeyTest, KeepsOthers, keys_of, set_value, values_of}
 use Rattle.vecmap_base.specs.{Equality.has_same_counts, Indices.{HasMatchAt, KeepsIndices}, Pairs.{HasDistinctKeys, index_by, lookup, lookup_by, puts, with_value}}
 
 module _ {K V : Type 0} (eq : K → K → Bool) where
-  -- Example: from `[(1,a)]` to `[(1,a), (2,b)]` for the key 2: b.
+  -- Example: `UpdatesBy nat_eq (nat_eq 1) [(1, a), (2, b)] [(2, b)] None`.
+  -- Example: `¬ (UpdatesBy nat_eq (nat_eq 2) [(1, a)] [(1, a)] (Some b))`.
   -- The list `m` has `w` at the key that passes the test (`None`: it is absent), and at each other key what `l` has.
   pub record UpdatesBy (test : K → Bool) (l m : List (K × V)) (w : Option V) : Type 0 where
     pub lookups : (q : K) → lookup eq m q ≡ cond (test q) w (lookup eq l q)
@@ -22,7 +23,7 @@ module _ {K V : Type 0} (eq : K → K → Bool) where
     pub at : HasMatchAt test l i
     pub written : (v : V) → UpdatesBy test l (with_value l i v) (Some v)
 
-  -- Example: from `[(1,a), (2,b)]` to `[(2,b), (1,a)]`.
+  -- Example: `KeepsLookups nat_eq [(1, a), (2, b)] [(2, b), (1, a)]`; `¬ (KeepsLookups nat_eq [(1, a)] [])` by `lookups 1`.
   -- Each key, and each query that matches a key and its equals alone, finds in the list `m` what it finds in `l`.
   pub record KeepsLookups (l m : List (K × V)) : Type 0 where
     pub lookups : (q : K) → lookup eq m q ≡ lookup eq l q
@@ -30,7 +31,7 @@ module _ {K V : Type 0} (eq : K → K → Bool) where
     pub distinct : HasDistinctKeys eq m
 
 module _ {K V : Type 0} where
-  -- Example: `[(1,a)]`, the first pair of `[(1,a), (2,b)]`.
+  -- Example: `KeepsFront 1 [(1, a), (2, b)] [(1, a)]`; `¬ (KeepsFront 1 [(1, a), (2, b)] [(2, b)])`.
   -- The list `m` has the first `n` pairs of the list `l`.
   pub record KeepsFront (n : ℕ) (l m : List (K × V)) : Type 0 where
     pub entries : m ≡ take n l
@@ -43,7 +44,7 @@ module _ {K V : Type 0} where
     pub values : values_of m ≡ take n (values_of l)
     pub len : length m ≡ min n (length l)
 
-  -- Example: from `[(1,a), (2,b)]` to `[(2,b), (1,a)]`.
+  -- Example: `IsReordered [(1, a), (2, b)] [(2, b), (1, a)]`; `¬ (IsReordered [(1, a), (2, b)] [(1, a)])`.
   -- The list `m` has the pairs of the list `l`, in some order.
   pub record IsReordered (l m : List (K × V)) : Type 0 where
     pub rearranged : IsPermutation l m
@@ -54,7 +55,7 @@ module _ {K V : Type 0} where
     pub len : length m ≡ length l
     pub equal : (key : K → K → Bool) (value : V → V → Bool) → IsEquivalence key → IsEquivalence value → IsTrue (has_same_counts key value m l)
 
-  -- Example: from `[(1,a), (2,b)]` to `[(1,a), (2,c)]` for the index 1.
+  -- Example: `UpdatesAt 1 [(1, a), (2, b)] [(1, a), (2, c)] c`; `¬ (UpdatesAt 1 [(1, a), (2, b)] [(1, a), (3, c)] c)`.
   -- The list `m` is the list `l` with `v` as the value at the index `i`.
   pub record UpdatesAt (i : ℕ) (l m : List (K × V)) (v : V) : Type 0 where
     -- What lookups find: the value for a match at the index, and what they found for any other key.
@@ -64,7 +65,7 @@ module _ {K V : Type 0} where
     -- The keys stay, each at its index.
     pub keys : KeepsIndices l m
 
-  -- Example: from `[(1,a)]`, with `[(1,b), (2,c)]`, to `[(1,b), (2,c)]`.
+  -- Example: `Joins nat_eq [(1, a)] [(1, b), (2, c)] [(1, b), (2, c)]`; `¬ (Joins nat_eq [(1, a)] [] [])`.
   -- The list `m` is the list `l` after insertions of `pairs`.
   pub record Joins (eq : K → K → Bool) (l pairs m : List (K × V)) : Type 0 where
     pub entries : m ≡ puts eq l pairs
@@ -79,7 +80,8 @@ module _ {K V : Type 0} where
     -- If all keys are distinct, the pairs are appended. `whole` is what a split has divided.
     pub joined : (whole : List (K × V)) → l ++ pairs ≡ whole → HasDistinctKeys eq whole → m ≡ whole
 
-  -- Example: of `[(1,a), (2,b), (1,c)]`: `[(1,c), (2,b)]`.
+  -- Example: `MakesPairs nat_eq [(1, a), (2, b), (1, c)] [(1, c), (2, b)]`.
+  -- Example: `¬ (MakesPairs nat_eq [(1, a), (1, b)] [(1, a), (1, b)])`.
   -- The list `m` is what insertions of `pairs` make. If their keys are distinct, it is `pairs`.
   pub record MakesPairs (eq : K → K → Bool) (pairs m : List (K × V)) : Type 0 where
     pub entries : m ≡ puts eq [] pairs
@@ -97,7 +99,7 @@ module _ {K V : Type 0} where
     -- The keys stay, each at its index.
     pub keys : (v : V) → KeepsIndices l (set_value test l v)
 
--- Example: from `[1]` to `[1, 2]` for 2: true.
+-- Example: `UpdatesMember nat_eq (nat_eq 1) [1, 2] [2] false`; `¬ (UpdatesMember nat_eq (nat_eq 2) [1] [1] true)`.
 -- The list `r` has elements that pass the test exactly if `b` is true, and each other element exactly if `s` has it.
 pub record UpdatesMember {T : Type 0} (eq : T → T → Bool) (test : T → Bool) (s r : List T) (b : Bool) : Type 0 where
   pub members : (q : T) → is_member eq r q ≡ cond (test q) b (is_member eq s q)

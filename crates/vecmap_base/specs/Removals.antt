@@ -5,7 +5,7 @@ use Rattle.std.specs.{Cmp.IsEquivalence, Map.IsKeyTest, Option.option_or}
 use Rattle.vecmap_base.specs.{Lookups.{KeepsFront, UpdatesBy}, Pairs.{HasDistinctKeys, index_by, lookup_by, lookup_pair_by}}
 
 module _ {K V : Type 0} where
-  -- Example: `(1,a)` of `[(1,a), (2,b)]` for the query 1.
+  -- Example: `FindsPair (nat_eq 1) [(1, a), (2, b)] (Some (1, a))`; `¬ (FindsPair (nat_eq 1) [(1, a)] None)`.
   -- The pair that a query finds, if there is one.
   pub record FindsPair (test : K → Bool) (l : List (K × V)) (r : Option (K × V)) : Type 0 where
     pub pair : r ≡ lookup_pair_by test l
@@ -13,7 +13,8 @@ module _ {K V : Type 0} where
     pub found : is_some r ≡ is_some (lookup_by test l)
     pub value : option_map (λ p. p.1) r ≡ lookup_by test l
 
-  -- Example: from `[(1,a), (2,b)]` to `[(2,b)]` for the query 1 and `without_by`.
+  -- Example: `RemovesBy nat_eq without_by (nat_eq 1) [(1, a), (2, b)] [(2, b)]`.
+  -- Example: `¬ (RemovesBy nat_eq without_by (nat_eq 1) [(1, a)] [(1, a)])`.
   -- The list `m` is the list `l` without the first pair whose key passes the test, and with the others as `without` says.
   pub record RemovesBy (eq : K → K → Bool) (without : (K → Bool) → List (K × V) → List (K × V)) (test : K → Bool) (l m : List (K × V)) : Type 0 where
     pub entries : m ≡ without test l
@@ -33,7 +34,7 @@ module _ {K V : Type 0} where
   abbrev pub ForgetsIndex : ℕ → List (K × V) → List (K × V) → Type 0
   ForgetsIndex i l m = (test : K → Bool) (eq : K → K → Bool) → HasDistinctKeys eq l → IsKeyTest eq test → IsEquivalence eq → index_by test l ≡ Some i → lookup_by test m ≡ None
 
-  -- Example: from `[(1,a), (2,b)]` to `[(2,b)]` for the index 0, the pair `(1,a)` and `remove`.
+  -- Example: `RemovesAt remove 0 [(1, a), (2, b)] (1, a) [(2, b)]`; `¬ (RemovesAt remove 0 [(1, a), (2, b)] (1, a) [(1, a)])`.
   -- The list `m` is the list `l` without its pair `p` at the index `i`, and with the others as `without` says.
   pub record RemovesAt (without : List (K × V) → ℕ → List (K × V)) (i : ℕ) (l : List (K × V)) (p : K × V) (m : List (K × V)) : Type 0 where
     pub pair : slice_get l i ≡ Some p
@@ -44,7 +45,7 @@ module _ {K V : Type 0} where
     -- How many pairs there are.
     pub len : length m + 1 ≡ length l
 
-  -- Example: from `[(1,a), (2,b)]` to `[(1,a)]`, with `Some (2,b)`.
+  -- Example: `RemovesLast [(1, a), (2, b)] (Some (2, b)) [(1, a)]`; `¬ (RemovesLast [(1, a), (2, b)] (Some (1, a)) [(2, b)])`.
   -- The list `m` is the list `l` without its last pair, which is returned, if there is one.
   pub record RemovesLast (l : List (K × V)) (r : Option (K × V)) (m : List (K × V)) : Type 0 where
     pub pair : r ≡ slice_get l (length l - 1)
@@ -54,7 +55,7 @@ module _ {K V : Type 0} where
     pub removal : IfSome r (λ p. ForgetsKey p.0 l m)
     pub len : length m + (if is_some r then 1 else 0) ≡ length l
 
-  -- Example: `[(1,a)]` and `[(2,b)]`, of `[(1,a), (2,b)]` at the index 1.
+  -- Example: `SplitsAt 1 [(1, a), (2, b)] [(1, a)] [(2, b)]`; `¬ (SplitsAt 1 [(1, a), (2, b)] [(2, b)] [(1, a)])`.
   -- The list `l` is split before the index `i`: the list `m` is the front, and the list `r` the rest.
   pub record SplitsAt (i : ℕ) (l m r : List (K × V)) : Type 0 where
     pub front : KeepsFront i l m

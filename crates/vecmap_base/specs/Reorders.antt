@@ -5,7 +5,7 @@ use Rattle.std.specs.Map.{IsKeyTest}
 use Rattle.vecmap_base.specs.{Indices.MovesIndex, Items.moved, Lookups.IsReordered, Pairs.{HasDistinctKeys, index_by}}
 
 module _ {K V : Type 0} where
-  -- Example: from `[(1,a), (2,b)]` to `[(2,b), (1,a)]`.
+  -- Example: `ReversesPairs [(1, a), (2, b)] [(2, b), (1, a)]`; `¬ (ReversesPairs [(1, a), (2, b)] [(1, a), (2, b)])`.
   -- The list `m` is the list `l` in reverse order.
   pub record ReversesPairs (l m : List (K × V)) : Type 0 where
     pub entries : m ≡ reverse l
@@ -13,7 +13,7 @@ module _ {K V : Type 0} where
     pub reordered : IsReordered l m
     pub indices : (eq : K → K → Bool) (test : K → Bool) (i : ℕ) → index_by test l ≡ Some i → IsEquivalence eq → IsKeyTest eq test → HasDistinctKeys eq l → index_by test m ≡ Some (length l - 1 - i)
 
-  -- Example: from `[(1,a), (2,b)]` to `[(2,b), (1,a)]` for the indices 0 and 1.
+  -- Example: `SwapsPairs 0 1 [(1, a), (2, b)] [(2, b), (1, a)]`; `¬ (SwapsPairs 0 1 [(1, a), (2, b)] [(1, a), (2, b)])`.
   -- The list `m` is the list `l` with the pairs at the indices `a` and `b` swapped.
   pub record SwapsPairs (a b : ℕ) (l m : List (K × V)) : Type 0 where
     pub entries : m ≡ swap l a b
@@ -22,7 +22,8 @@ module _ {K V : Type 0} where
     pub moves : MovesIndex a b l m × MovesIndex b a l m
     pub elsewhere : (i : ℕ) → nat_eq i a ≡ false → nat_eq i b ≡ false → MovesIndex i i l m
 
-  -- Example: from `[(1,a), (2,b), (3,c)]` to `[(2,b), (3,c), (1,a)]` for the indices 0 and 2.
+  -- Example: `MovesPair 0 2 [(1, a), (2, b), (3, c)] [(2, b), (3, c), (1, a)]`.
+  -- Example: `¬ (MovesPair 0 2 [(1, a), (2, b), (3, c)] [(3, c), (2, b), (1, a)])`.
   -- The list `m` is the list `l` after the pair at the index `from` has moved to the index `to`.
   pub record MovesPair (from to : ℕ) (l m : List (K × V)) : Type 0 where
     pub entries : m ≡ moved l from to

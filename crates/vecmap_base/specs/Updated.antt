@@ -1,4 +1,5 @@
--- What a list of pairs is after a closure was called for each pair, in order, and wrote the value.
+-- What a list of pairs is after a closure was called for each pair, in order, and wrote the value. In the examples,
+-- `sets c` is a closure that sets each value to `c`.
 use Rattle.std.specs.{Prelude.{◌≡◌, ◌<◌, ℕ, Bool, true, IsSome, List, ◌∷◌, ◌++◌, Some, length, map, option_map, Result, Ok, Err}, Borrow.{Bor, MutBor}}
 use Rattle.std.specs.{Fn.{Called, Mut, Takes}, List.All, Map.values_of}
 use Rattle.vecmap_base.specs.{Asked.CallableOnEach, Indices.KeepsIndices, Kept.Kept, Pairs.{lookup_by, map_values, value_at}}
@@ -23,7 +24,7 @@ module _ {F X : Type 0} (R : F → X → X → F → Type 0) where
   AlwaysComputes h = (f : F) (x y : X) (g : F) → R f x y g → y ≡ h x
 
 module _ {F K V : Type 0} (R : F → K × V → K × V → F → Type 0) where
-  -- Example: of a closure that adds 1 to each value: from `[(1,5), (2,6)]` to `[(1,6), (2,7)]`.
+  -- Example: `UpdatesPairs (sets c) tt [(1, a), (2, b)] [(1, c), (2, c)]`; `¬ (UpdatesPairs (sets c) tt [(1, a)] [])`.
   -- The closure in the state `f` was called for each pair of `l`, in order, and left the pairs as in the list `m`.
   pub record UpdatesPairs (f : F) (l m : List (K × V)) : Type 0 where
     -- Each pair is as its call left it, in the state that the calls before have left.
@@ -35,7 +36,7 @@ module _ {F K V : Type 0} (R : F → K × V → K × V → F → Type 0) where
     -- The keys stay, each at its index.
     pub keys : KeepsIndices l m
 
--- Example: from `[(1,a), (2,b)]` to `[(1,c), (2,c)]` for the value c.
+-- Example: `SetsValues c [(1, a), (2, b)] [(1, c), (2, c)]`; `¬ (SetsValues c [(1, a), (2, b)] [(1, c)])`.
 -- The list `m` is the list `l` with `w` as each value.
 pub record SetsValues {K V : Type 0} (w : V) (l m : List (K × V)) : Type 0 where
   pub entries : m ≡ map_values (λ _. w) l

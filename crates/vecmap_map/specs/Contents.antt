@@ -112,7 +112,8 @@ module _ {K V : Type 0} where
     pub absent : index ≡ None
     pub cause : failed error ⊎ FailsToAppend becomes made old error
 
-  -- Example: of the key 2 and a pair `(2,b)`: from `[(1,a)]` to `[(1,a), (2,b)]`.
+  -- Example: `FindsOrAppends nat_eq (nat_eq 1) (copy (1, b)) (map_of [(1, a)] 1) (map_of [(1, a)] 1) 0`.
+  -- Example: `¬ (FindsOrAppends nat_eq (nat_eq 2) (copy (2, b)) (map_of [(1, a)] 1) (map_of [(1, a)] 1) 0)`.
   -- A key that the test matches was present, and nothing has changed, or a pair that was made was appended. It is at `i`.
   pub record FindsOrAppends (eq : K → K → Bool) (test : K → Bool) (made : K × V → Type 0) (old new : Contents K V) (i : ℕ) : Type 0 where
     pub found : index_by test new.entries ≡ Some i

@@ -33,7 +33,8 @@ pub record CopiesPairs {K V : Type 0} (key_clone : K → K → Type 0) (value_cl
   -- What queries find if each clone of a key is equal to it, and each clone of a value is the same.
   pub lookups : ClonesAreSame value_clone → (test : K → Bool) (eq : K → K → Bool) → IsEquivalence eq → ((x y : K) → key_clone x y → eq x y ≡ true) → IsKeyTest eq test → lookup_by test m ≡ lookup_by test l
 
--- Example: of references to `[(1,a), (1,b)]`: `[(1,b)]`.
+-- Example: `MakesClones nat_eq copy copy [(1, a), (1, b)] (map_of [(1, b)] 2)`.
+-- Example: `¬ (MakesClones nat_eq copy copy [] (map_of [(1, b)] 2))`.
 -- The map `m` is what insertions of clones of `pairs` make, with capacity for all of them.
 pub record MakesClones {K V : Type 0} (eq : K → K → Bool) (key_clone : K → K → Type 0) (value_clone : V → V → Type 0) (pairs : List (K × V)) (m : Contents K V) : Type 0 where
   pub entries : (clones : List (K × V)) × ArePairClones key_clone value_clone pairs clones × (m.entries ≡ puts eq [] clones)

@@ -24,7 +24,7 @@ module _ {T : Type 0} (eq : T → T → Bool) where
     pub added : is_new ≡ not (is_member eq old.elements x)
     pub unchanged : IsTrue (is_member eq old.elements x) → new ≡ old
 
-  -- Example: from `[1x]` to `[1x, 2x]` for `2x`.
+  -- Example: `AddsItem eq [1x] 2x [1x, 2x]`; `AddsItem eq [1x] 1y [1x]`; `¬ (AddsItem eq [1x] 1y [1x, 1y])`.
   -- The list `r` is the list `s` after an insertion of `x`: an equal element stays, and a new one is appended.
   pub record AddsItem (s : List T) (x : T) (r : List T) : Type 0 where
     pub elements : r ≡ add eq s x
@@ -38,7 +38,7 @@ module _ {T : Type 0} (eq : T → T → Bool) where
     pub len : length r ≡ length s + (if not (is_member eq s x) then 1 else 0)
     pub indices : KeepsMatchIndices s r
 
-  -- Example: from `[1x]` to `[1y]` for `1y`.
+  -- Example: `PutsItem eq [1x] 1y [1y]`; `¬ (PutsItem eq [1x] 1y [1x, 1y])`.
   -- The list `r` is the list `s` after an insertion of `x` that replaces an equal element; a new one is appended.
   pub record PutsItem (s : List T) (x : T) (r : List T) : Type 0 where
     pub elements : r ≡ put_item eq s x
@@ -51,7 +51,7 @@ module _ {T : Type 0} (eq : T → T → Bool) where
     pub len : length r ≡ length s + (if is_some (stored_item eq s x) then 0 else 1)
     pub indices : KeepsItemIndices eq s r
 
-  -- Example: from `[1]` to `[1, 2]` for the query 2.
+  -- Example: `AddsItemBy nat_eq (nat_eq 2) [1] [1, 2]`; `¬ (AddsItemBy nat_eq (nat_eq 2) [1] [1])`.
   -- The list `r` is the list `s` if an element passes the test, or else `s` with such an element appended.
   pub record AddsItemBy (test : T → Bool) (s r : List T) : Type 0 where
     pub elements : (x : T) × IsTrue (test x) × (r ≡ (if list_any test s then s else s ++ x ∷ []))

@@ -27,7 +27,7 @@ module _ {T : Type 0} (eq : T → T → Bool) (is_clone : T → T → Type 0) (l
   abbrev pub MakesClones : {E : Type 0} → Contents T → Contents T → Result (Contents T) E → Type 0
   MakesClones a b r = IfOk r (λ set. AreClones is_clone (list eq a.elements b.elements) set.elements × IsDistinct eq set.elements)
 
--- Example: of `||` and `[1] | [2]`: it has 1 and 2.
+-- Example: `CombinesMembers nat_eq ◌||◌ [1] [2] [1, 2]`; `¬ (CombinesMembers nat_eq ◌||◌ [1] [] [1, 2])`.
 -- The list `r` has an element, or a match of a query, exactly if `combine` says so of its presence in `a` and in `b`.
 pub record CombinesMembers {T : Type 0} (eq : T → T → Bool) (combine : Bool → Bool → Bool) (a b r : List T) : Type 0 where
   -- Which elements and queries match, and how many elements there are.

@@ -6,7 +6,7 @@ use Rattle.vecmap_base.specs.{Items.{adds, stored_first}, Kept.{Kept, ReturnsAt,
 use Rattle.vecmap_set.specs.Indices.{KeepsMatchIndicesBelow}
 
 module _ {T : Type 0} where
-  -- Example: 2 of `[1, 2]` for the query 2.
+  -- Example: `FindsItem (nat_eq 2) [1, 2] (Some 2)`; `¬ (FindsItem (nat_eq 2) [1, 2] None)`.
   -- The element that a query finds, if there is one.
   pub record FindsItem (test : T → Bool) (s : List T) (r : Option T) : Type 0 where
     pub element : r ≡ stored_first test s
@@ -19,7 +19,7 @@ module _ {T : Type 0} where
   Takes x s r = (f : T → Bool) → list_any f s ≡ (f x || list_any f r)
 
 module _ {T : Type 0} (eq : T → T → Bool) where
-  -- Example: from `[1, 2, 3]` to `[1, 2]` for the length 2.
+  -- Example: `KeepsFrontItems nat_eq 2 [1, 2, 3] [1, 2]`; `¬ (KeepsFrontItems nat_eq 2 [1, 2, 3] [1])`.
   -- The list `r` has the first `n` elements of the list `s`.
   pub record KeepsFrontItems (n : ℕ) (s r : List T) : Type 0 where
     pub elements : r ≡ take n s
@@ -31,7 +31,7 @@ module _ {T : Type 0} (eq : T → T → Bool) where
     pub len : length r ≡ min n (length s)
     pub indices : KeepsMatchIndicesBelow n s r
 
-  -- Example: of a closure that keeps what is below 3: from `[1, 2, 3]` to `[1, 2]`.
+  -- Example: `RetainsItems nat_eq (keeps (nat_eq 2)) tt [1, 2] [2]`; `¬ (RetainsItems nat_eq (keeps (nat_eq 2)) tt [] [2])`.
   -- The list `r` has the elements of the list `s` for which the closure returns `true`, called in order from the state `f` on.
   pub record RetainsItems {F : Type 0} (R : F → T → Bool → T → F → Type 0) (f : F) (s r : List T) : Type 0 where
     pub calls : (g : F) × Kept R f s r g
@@ -41,7 +41,8 @@ module _ {T : Type 0} (eq : T → T → Bool) where
     pub matches : (query : T → Bool) (kept : Bool) → ReturnsAt R f query kept → list_any query r ≡ (list_any query s && kept)
     pub len : length r ≤ length s
 
-  -- Example: from `[1, 2, 3]` to `[2, 3]` for the query 1 and `without_first`.
+  -- Example: `RemovesItemBy nat_eq without_first (nat_eq 1) [1, 2, 3] [2, 3]`.
+  -- Example: `¬ (RemovesItemBy nat_eq without_first (nat_eq 1) [1, 2, 3] [3, 2])`.
   -- The list `r` is the list `s` without the element that passes the test, and with the others as `without` says.
   pub record RemovesItemBy (without : (T → Bool) → List T → List T) (test : T → Bool) (s r : List T) : Type 0 where
     pub elements : r ≡ without test s
@@ -53,7 +54,7 @@ module _ {T : Type 0} (eq : T → T → Bool) where
     pub before : (other : T → Bool) (i j : ℕ) → position test s ≡ Some j → position other s ≡ Some i → i < j → position other r ≡ Some i
     pub len : length r + (if list_any test s then 1 else 0) ≡ length s
 
-  -- Example: from `[1, 2, 3]` to `[2, 3]` for the index 0, the element 1 and `remove`.
+  -- Example: `RemovesItemAt nat_eq remove 0 [1, 2, 3] 1 [2, 3]`; `¬ (RemovesItemAt nat_eq remove 0 [1, 2, 3] 1 [3, 2])`.
   -- The list `r` is the list `s` without its element `x` at the index `i`, and with the others as `without` says.
   pub record RemovesItemAt (without : List T → ℕ → List T) (i : ℕ) (s : List T) (x : T) (r : List T) : Type 0 where
     pub element : slice_get s i ≡ Some x
@@ -64,7 +65,7 @@ module _ {T : Type 0} (eq : T → T → Bool) where
     pub len : length r + 1 ≡ length s
     pub indices : KeepsMatchIndicesBelow i s r
 
-  -- Example: from `[1, 2]` to `[1]`, with `Some 2`.
+  -- Example: `RemovesLastItem nat_eq [1, 2] (Some 2) [1]`; `¬ (RemovesLastItem nat_eq [1, 2] (Some 1) [2])`.
   -- The list `r` is the list `s` without its last element, which is returned, if there is one.
   pub record RemovesLastItem (s : List T) (last : Option T) (r : List T) : Type 0 where
     pub element : last ≡ slice_get s (length s - 1)
@@ -74,7 +75,7 @@ module _ {T : Type 0} (eq : T → T → Bool) where
     pub updates : IfSome last (λ x. UpdatesMember eq (eq x) s r false)
     pub len : length r + (if is_some last then 1 else 0) ≡ length s
 
-  -- Example: of `[1, 2, 3]` at the index 2: `[1, 2]` and `[3]`.
+  -- Example: `SplitsItems nat_eq 2 [1, 2, 3] [1, 2] [3]`; `¬ (SplitsItems nat_eq 2 [1, 2, 3] [1] [2, 3])`.
   -- The list `r` has the first `n` elements of the list `s`, and the list `rest` the others.
   pub record SplitsItems (n : ℕ) (s r rest : List T) : Type 0 where
     pub front : KeepsFrontItems n s r

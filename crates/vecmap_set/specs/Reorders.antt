@@ -11,7 +11,7 @@ module _ {T : Type 0} (eq : T → T → Bool) where
     pub reordered : IsReorderedItems s r
     pub distinct : IsDistinct eq r
 
-  -- Example: from `[1, 2, 3]` to `[3, 2, 1]`.
+  -- Example: `ReversesItems nat_eq [1, 2, 3] [3, 2, 1]`; `¬ (ReversesItems nat_eq [1, 2, 3] [1, 2, 3])`.
   -- The list `r` is the list `s` in reverse order.
   pub record ReversesItems (s r : List T) : Type 0 where
     pub elements : r ≡ reverse s
@@ -20,7 +20,7 @@ module _ {T : Type 0} (eq : T → T → Bool) where
     pub reordered : IsReorderedItems s r
     pub moves : (i : ℕ) → i < length s → MovesItemIndex eq i (length s - 1 - i) s r
 
-  -- Example: from `[1, 2, 3]` to `[3, 2, 1]` for the indices 0 and 2.
+  -- Example: `SwapsItems nat_eq 0 2 [1, 2, 3] [3, 2, 1]`; `¬ (SwapsItems nat_eq 0 2 [1, 2, 3] [2, 3, 1])`.
   -- The list `r` is the list `s` with the elements at the indices `a` and `b` swapped.
   pub record SwapsItems (a b : ℕ) (s r : List T) : Type 0 where
     pub elements : r ≡ swap s a b
@@ -30,7 +30,7 @@ module _ {T : Type 0} (eq : T → T → Bool) where
     pub moves : MovesItemIndex eq a b s r × MovesItemIndex eq b a s r
     pub elsewhere : (i : ℕ) → nat_eq i a ≡ false → nat_eq i b ≡ false → MovesItemIndex eq i i s r
 
-  -- Example: from `[1, 2, 3]` to `[2, 3, 1]` for the indices 0 and 2.
+  -- Example: `MovesItem nat_eq 0 2 [1, 2, 3] [2, 3, 1]`; `¬ (MovesItem nat_eq 0 2 [1, 2, 3] [3, 2, 1])`.
   -- The list `r` is the list `s` after the element at the index `from` has moved to the index `to`.
   pub record MovesItem (from to : ℕ) (s r : List T) : Type 0 where
     pub elements : r ≡ moved s from to

@@ -24,7 +24,7 @@ module _ {T : Type 0} (eq : T → T → Bool) where
     pub queries : (test : T → Bool) → IsKeyTest eq test → list_any test a ≡ list_any test b
     pub len : length a ≡ length b
 
-  -- Example: from `[1x]` to `[1x, 2x]` for `[1y, 2x]`.
+  -- Example: `AddsItems eq [1x] [1y, 2x] [1x, 2x]`; `¬ (AddsItems eq [1x] [1y, 2x] [1x, 1y, 2x])`.
   -- The list `r` is the list `s` after insertions of all of `xs`, in order: an equal element stays, and a new one is appended.
   pub record AddsItems (s xs r : List T) : Type 0 where
     pub elements : r ≡ adds eq s xs
@@ -37,7 +37,7 @@ module _ {T : Type 0} (eq : T → T → Bool) where
     -- If no two elements are equal, all are appended.
     pub as_given : IsDistinct eq (s ++ xs) → r ≡ s ++ xs
 
-  -- Example: from `[1]` to `[1, 2]` for `[1, 2]`.
+  -- Example: `JoinsItems nat_eq [1] [1, 2] [1, 2]`; `¬ (JoinsItems nat_eq [1] [1, 2] [1, 1, 2])`.
   -- The same, if the lists `s` and `xs` are the elements of two sets.
   pub record JoinsItems (s xs r : List T) : Type 0 where
     pub added : AddsItems s xs r
@@ -45,7 +45,7 @@ module _ {T : Type 0} (eq : T → T → Bool) where
     pub enough : length xs ≤ length r
     pub apart : both eq s xs ≡ [] → length r ≡ length s + length xs
 
-  -- Example: from `[1x, 1y]` to `[1x]`.
+  -- Example: `AddsClones nat_eq copy [1, 1] [1]`; `¬ (AddsClones nat_eq copy [1] [1, 1])`.
   -- The list `r` is the empty list after insertions of clones of all of `xs`, in order.
   pub record AddsClones (is_clone : T → T → Type 0) (xs r : List T) : Type 0 where
     pub elements : (clones : List T) × AreClones is_clone xs clones × (r ≡ adds eq [] clones)
@@ -54,7 +54,7 @@ module _ {T : Type 0} (eq : T → T → Bool) where
     pub members : ((x y : T) → Contains xs x → is_clone x y → IsTrue (eq x y)) → (q : T) → is_member eq r q ≡ is_member eq xs q
     pub len : length r ≤ length xs
 
-  -- Example: from `[1x, 2x]` to `[1y, 2x]`.
+  -- Example: `CopiesItems nat_eq copy [1, 2] [1, 2]`; `¬ (CopiesItems nat_eq copy [1, 2] [1])`.
   -- The list `r` has a clone of each element of `s`, in order, and a clone is equal to its original.
   pub record CopiesItems (is_clone : T → T → Type 0) (s r : List T) : Type 0 where
     pub elements : AreClones is_clone s r
