@@ -8,6 +8,6 @@ pub returns-clause-settings : goal.returns-clause-settings
 returns-clause-settings g c = λ q.
     let eq = g.K.PartialEq.eq in
     let mine = c.self.inside in
-    (λ t. option_or (lookup eq (c.in_ok-append.ensures.emptied t).entries q) (lookup eq (c.in_ok-append.ensures.insertion t).entries q))
+    (λ t. option_or (lookup eq (c.in_ok-append.ensures.emptied t).entries q) (lookup eq (c.in_ok-append.ensures.insertion.entries t) q))
     ∙ lookup_puts_distinct eq g.met.K.Eq.laws mine.defaults.entries mine.overrides.entries c.self.invariant q
     ∙ ap (λ o. setting eq o q) c.self.view_is
