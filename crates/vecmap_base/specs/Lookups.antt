@@ -19,7 +19,7 @@ module _ {K V : Type 0} (eq : K → K → Bool) where
 
   -- Example: the index 1 of `[(1,a), (2,b)]` and the query 2.
   -- At the index `i` of the list `l` is the pair that a query finds, and a write of a value there is one at the query.
-  pub record FindsAt (test : K → Bool) (l : List (K × V)) (i : ℕ) : Type 0 where
+  pub record FindsKeyAt (test : K → Bool) (l : List (K × V)) (i : ℕ) : Type 0 where
     pub at : HasMatchAt test l i
     pub written : (v : V) → UpdatesBy test l (with_value l i v) (Some v)
 

@@ -1,7 +1,7 @@
 //! Lookups by query and by index.
 ghost use Rattle.std.specs.Prelude.{◌≡◌, ◌-◌, ◌<◌, ◌^◌, ◌↔◌, IfSome, IsTrue, Some, is_some, length, nat_lt, option_copied, option_map, slice_get, string_eq};
 ghost use Rattle.std.specs.{Map.Iter.deref_pair, Option.option_and_then};
-ghost use Rattle.vecmap_base.specs.{Indices.{FindsIndex, IsFoundAt}, Lookups.FindsAt};
+ghost use Rattle.vecmap_base.specs.{Indices.{FindsIndex, IsFoundAt}, Lookups.FindsKeyAt};
 ghost use Rattle.vecmap_base.specs.Pairs.{HasDistinctKeys, has_text, index_by, lookup_by, lookup_pair_by, value_at};
 
 use crate::VecMap;
@@ -186,7 +186,7 @@ impl<K, V> VecMap<K, V> {
 
         // What follows for lookups, lengths and indices.
         ensures found { FindsIndex (Q.equivalent query) self.now.entries result }
-        ensures at { IfSome result (FindsAt K.eq (Q.equivalent query) self.now.entries) }
+        ensures at { IfSome result (FindsKeyAt K.eq (Q.equivalent query) self.now.entries) }
     {
         let _len = self.len(); // Bounds the index.
         find_equivalent(&self.pairs, query)
@@ -262,7 +262,7 @@ impl<V> VecMap<String, V> {
 
         // What follows for lookups, lengths and indices.
         ensures found { FindsIndex (has_text text.now) self.now.entries result }
-        ensures at { IfSome result (FindsAt string_eq (has_text text.now) self.now.entries) }
+        ensures at { IfSome result (FindsKeyAt string_eq (has_text text.now) self.now.entries) }
     {
         self.get_index_of(text)
     }

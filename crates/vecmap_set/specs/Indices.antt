@@ -27,7 +27,7 @@ module _ {T : Type 0} where
     pub after : (j : ℕ) → i ≤ j → slice_get r j ≡ slice_get s (j + 1)
 
 module _ {T : Type 0} (eq : T → T → Bool) where
-  -- Example: the element 2 at the index 1 of `[1, 2]`.
+  -- Example: `IsFoundAt nat_eq 1 [1, 2] 2`; `¬ (IsFoundAt nat_eq 1 [1, 2] 3)`.
   -- The element `x` at the index `i` of the list `s` is present, and is found there.
   pub record IsFoundAt (i : ℕ) (s : List T) (x : T) : Type 0 where
     pub present : IsTrue (is_member eq s x)

@@ -7,7 +7,7 @@ use Rattle.vecmap_base.specs.{Items.{add, item_index, put_item, stored_item}, Lo
 use Rattle.vecmap_set.specs.{Contents.{Appends, Contents}, Indices.{FindsAt, KeepsItemIndices, KeepsMatchIndices}, Tests.AgreesOnEquals}
 
 module _ {T : Type 0} where
-  -- Example: from `[1]` to `[1, 2]` for `2`.
+  -- Example: `AppendsItem [1] 2 [1, 2]`; `¬ (AppendsItem [1] 2 [1])`.
   -- The list `r` is the list `s` with the element `x` appended.
   pub record AppendsItem (s : List T) (x : T) (r : List T) : Type 0 where
     pub elements : r ≡ s ++ x ∷ []
@@ -61,7 +61,8 @@ module _ {T : Type 0} (eq : T → T → Bool) where
     pub len : length r ≡ length s + (if not (list_any test s) then 1 else 0)
     pub indices : KeepsMatchIndices s r
 
-  -- Example: of the query 2: from `[1]` to `[1, 2]`, at the index 1.
+  -- Example: `FindsOrAppends nat_eq (nat_eq 2) (copy 2) (set_of [1] 1) (set_of [1, 2] 4) 1`.
+  -- Example: `¬ (FindsOrAppends nat_eq (nat_eq 2) (copy 2) (set_of [1] 1) (set_of [1] 1) 0)`.
   -- An element that the test matches was present, and nothing has changed, or one that was made was appended. It is at `i`.
   pub record FindsOrAppends (test : T → Bool) (made : T → Type 0) (old new : Contents T) (i : ℕ) : Type 0 where
     pub insertion : AddsItemBy test old.elements new.elements

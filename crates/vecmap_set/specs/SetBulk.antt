@@ -17,7 +17,7 @@ module _ {T U S A E : Type 0} (becomes : U → S → Type 0) (steps : S → Opti
     pub indices : OnOk result (KeepsMatchIndices old.elements new.elements)
 
 module _ {T : Type 0} (eq : T → T → Bool) where
-  -- Example: `[1, 2]` and `[2, 1]`.
+  -- Example: `HaveSameItems nat_eq [1, 2] [2, 1]`; `¬ (HaveSameItems nat_eq [1] [])`.
   -- The lists `a` and `b`, which are distinct, have the same elements.
   pub record HaveSameItems (a b : List T) : Type 0 where
     pub members : (q : T) → is_member eq a q ≡ is_member eq b q

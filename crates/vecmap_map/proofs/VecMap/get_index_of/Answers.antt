@@ -1,5 +1,5 @@
 use Rattle.std.{proofs.Common.{◌≡◌, ◌∙◌, is_some, arith, None, Option, Some, IfSome, ap, sym}, specs.Option.option_and_then}
-use Rattle.vecmap_base.{specs.{Lookups.FindsAt, Pairs.{index_by, value_at}}, proofs.PairsLemmas.AtIndices.match_at}
+use Rattle.vecmap_base.{specs.{Lookups.FindsKeyAt, Pairs.{index_by, value_at}}, proofs.PairsLemmas.AtIndices.match_at}
 use Rattle.vecmap_base.proofs.PairsLemmas.{ByIndex.{is_some_lookup_by, lookup_by_index}, UpdatedAt.updates_at}
 use Rattle.vecmap_map.proofs.VecMap.get_index_of.Goals as goal
 
@@ -17,7 +17,7 @@ pub returns-clause-at : goal.returns-clause-at
 returns-clause-at g c = by c.find_equivalent.result (grind arith)
   where
     by : (found : Option _) → found ≡ index_by (g.Q.Equivalent.equivalent c.args.query) c.args.self.now.entries
-        → IfSome found (FindsAt g.K.PartialEq.eq (g.Q.Equivalent.equivalent c.args.query) c.args.self.now.entries)
+        → IfSome found (FindsKeyAt g.K.PartialEq.eq (g.Q.Equivalent.equivalent c.args.query) c.args.self.now.entries)
     by None e = tt
     by (Some i) e = record {
       at = match_at (g.Q.Equivalent.equivalent c.args.query) c.args.self.now.entries i (sym e);
