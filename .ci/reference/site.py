@@ -6,7 +6,6 @@ import os
 import re
 import shutil
 import tempfile
-import urllib.parse
 
 from rattle import DEFINED, files, read, run, sources, specs, write
 from reference.contracts import BLOCKS, FAULTS
@@ -152,7 +151,7 @@ def link_faults(texts, out):
         for target in dict.fromkeys(re.findall(r' (?:href|src)="?(?!\w+:(?!:))([^" >]+)', text)):
             path, _, anchor = html.unescape(target).partition("#")
             file = os.path.normpath(os.path.join(os.path.dirname(page), path.split("?")[0])) if path else page
-            names = {anchor, urllib.parse.unquote(anchor), *re.findall(r"^\d+(?=-\d+$)", anchor)}
+            names = {anchor, *re.findall(r"^\d+(?=-\d+$)", anchor)}
             if not os.path.exists(f"{out}/{file}") or anchor and file in places and not names & places[file]:
                 yield f"reference: {page} has the link {target}, which leads nowhere"
 
