@@ -204,5 +204,6 @@ def headings():
         text, *notes = [*re.findall(r"^# (?!=)(.*)", block, re.MULTILINE), ""]
         lines = [line for line in block.splitlines() if not line.startswith("#")]
         rows = [line for line in lines if line and line.split(" ")[0] not in SET_UP]
-        found += [Heading(part, text, notes[:-1], lines, rows)] if part and (text or lines) else []
+        if part and (text or lines):
+            found.append(Heading(part, text, notes[:-1], lines, rows))
     return found

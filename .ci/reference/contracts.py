@@ -119,7 +119,7 @@ def put_in(text, given):
 
 def whole(fields):
     """Returns the lines of fields, and of records in fields, that say what a whole value is."""
-    return [it for is_whole, line, below in fields for it in whole(below) or [line] * is_whole]
+    return [it for is_whole, line, below in fields for it in whole(below) or ([line] if is_whole else [])]
 
 
 def details(fields):
