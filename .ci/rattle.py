@@ -192,7 +192,7 @@ def calls_of(row):
 
 def name_in_rows(function):
     """Returns the name by which rows call a function."""
-    return "entry:" * ("/entry" in function.path) + function.name
+    return f"entry:{function.name}" if "/entry" in function.path else function.name
 
 
 @functools.cache

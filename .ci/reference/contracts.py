@@ -213,7 +213,7 @@ class Names:
             made[first] = f'<span class="said">{words.rstrip(".")}.</span>\n' * bool(words) + made[first]
             if below := details(self.fields(formula)):
                 made[last] += f'</pre><div class="fields">{below}</div><pre>'
-        return f"<pre>{chr(10).join(made)}</pre>" * bool(text)
+        return f"<pre>{chr(10).join(made)}</pre>" if text else ""
 
 
 class Block:

@@ -68,7 +68,7 @@ def contract_of(item, text, given):
         title = "::".join(filter(None, [home, owner_of(item), item.name]))
     told = re.sub(r"\[(`.*?`)\]", r"\1", laws_for.about(item)) if item.is_public else ""
     block = Block(item.path, item.line, title, text, given, told=told)
-    return doc("\n# Contract\n" * bool(text.strip()) + block.mark)
+    return doc(("\n# Contract\n" if text.strip() else "") + block.mark)
 
 
 def function_form(item):

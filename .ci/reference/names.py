@@ -68,7 +68,7 @@ def path_of(place, name):
         crate, owner, is_variant = found.groups()
         if crate == "std" and name in fixed() or not is_variant and name != owner:
             return fixed().get(name) or fixed().get(f".{name}", "")
-        return f"{crate}::{owner}" + f"::{name}" * bool(is_variant)
+        return f"{crate}::{owner}::{name}" if is_variant else f"{crate}::{owner}"
     crate, _, rest = place.removeprefix("Rattle.").partition(".")
     path, otherwise = f"{crate}.{rest}.{name}".replace(".", "::"), fixed().get(name, "")
     if crate in DEFINED:
