@@ -70,10 +70,11 @@ TIMED = {
 }
 # The rows in which the page compares kinds of keys with the kit's indexmap.
 CROSSINGS = {
-    "numbers": ["get hit", "get miss", "insert new", ""],
-    "texts": ["String get_str hit", "String get_str miss", "String insert new", ""],
-    "enums": ["header get hit", "", "header insert new", "header remove+insert"],
+    "numbers": ["get hit", "get miss", "insert new", "insert reserved", ""],
+    "texts": ["String get_str hit", "String get_str miss", "String insert new", "", ""],
+    "enums": ["header get hit", "", "header insert new", "", "header remove+insert"],
 }
+CALLS_COMPARED = ["`get`, present", "`get`, absent", "`insert`", "`insert` with capacity", "`remove` and `insert`"]
 # The ratios of a row at one size, and the nanoseconds of an operation. Of two other crates, those are the first number.
 Cell = collections.namedtuple("Cell", "median leasts least greatest ours theirs", defaults=[0] * 5)
 
@@ -257,7 +258,7 @@ def crossing_table(tables):
     for row, n in ((row, n) for row in ratios for n in sorted(ratios[row])):
         first[row] = (first.get(row) or n) if is_above(ratios[row][n]) else ""
     lines = ([keys, *(first[row] for row in rows)] for keys, rows in CROSSINGS.items())
-    return table([["keys", "`get`, present", "`get`, absent", "`insert`", "`remove` and `insert`"], *lines])
+    return table([["keys", *CALLS_COMPARED], *lines])
 
 
 def page_of(text, tables):
