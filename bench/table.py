@@ -49,11 +49,11 @@ SIZES_OF_OTHERS = [2, 8, 32, 128, 512]
 SIZES_OF_COUNTS = [8, 128]
 # The kinds of rows, with what the names of their rows begin with. The means of the last three are of little use.
 KINDS = {
-    "lookups": r"(?!document).*\bget|set contains",
+    "lookups": r"(?!document).*\bget|(set )?contains",
     "insertions, entries": r"(?!document|.*remove|.*swap_).*(insert|entry|count )",
-    "removals": r".*(remove|swap_)",
+    "removals": r".*(remove|swap_)|pop",
     "`retain`, `drain`, `split_off`": r"(set )?(retain|drain|split_off)",
-    "from vectors, clones": r".*From<Vec>|from_iter|extend|append|clone",
+    "from vectors, clones": r".*From<Vec>|from_iter|vecmap!|(set )?(extend|append|clone)",
     "iteration": r"(set )?iter|keys|values",
     "sorts, binary searches": r"(set )?(sort|binary|partition)",
     "equality": r"(set )?[!=]=",

@@ -58,6 +58,12 @@ pub struct Numbers {
     pub repeats: Vec<u64>,
     /// Four times as many keys, the first ones more often.
     pub words: Vec<u64>,
+    /// The keys, with the one in the middle moved to the end.
+    pub moved: Vec<u64>,
+    /// The numbers below the size.
+    pub places: Vec<u64>,
+    /// The same in another order.
+    pub shuffled_places: Vec<u64>,
     /// 1000 commands. Each has a key below the size, and in its low byte the kind of the command.
     pub commands: Vec<u64>,
 }
@@ -84,6 +90,11 @@ impl Numbers {
         let commands = (0..1000)
             .map(|_| (random.below(n) as u64) << 8 | random.below(100) as u64)
             .collect();
+        let mut moved = keys.clone();
+        let middle = moved.remove(n / 2);
+        moved.push(middle);
+        let places: Vec<u64> = (0..n as u64).collect();
+        let shuffled_places = random.shuffled(&places);
         Numbers {
             keys,
             hits,
@@ -93,6 +104,9 @@ impl Numbers {
             half,
             repeats,
             words,
+            moved,
+            places,
+            shuffled_places,
             commands,
         }
     }
@@ -105,6 +119,9 @@ pub struct Texts {
     pub orders: Vec<u8>,
     pub misses: Vec<u8>,
     pub words: Vec<u8>,
+    /// Keys of 6 bytes.
+    pub short_keys: Vec<u8>,
+    pub short_hits: Vec<u8>,
     /// Keys of 188 bytes, of which the first 168 are equal.
     pub long_keys: Vec<u8>,
     pub long_hits: Vec<u8>,
@@ -125,6 +142,7 @@ impl Texts {
     pub fn of(numbers: &Numbers) -> Texts {
         let sections = numbers.keys.len().div_ceil(8) as u64;
         let short = |x| format!("key-{:09}", x % 1_000_000_007);
+        let six = |x| format!("{:06x}", x >> 40);
         let long = |x| format!("{}{:020}", "a/long/common/prefix/".repeat(8), x);
         let name = move |x| format!("section-{} name-{:09}", x / 8 % sections, x % 1_000_000_007);
         Texts {
@@ -133,6 +151,8 @@ impl Texts {
             orders: lines(&numbers.orders, short),
             misses: lines(&numbers.misses, short),
             words: lines(&numbers.words, short),
+            short_keys: lines(&numbers.keys, six),
+            short_hits: lines(&numbers.hits, six),
             long_keys: lines(&numbers.keys, long),
             long_hits: lines(&numbers.hits, long),
             names: lines(&numbers.keys, name),

@@ -1,4 +1,4 @@
-//! Keys with an `==` of their own, for the sides in Rust.
+//! Keys that are structs and enums, for the sides in Rust.
 
 /// A symbol: a module, and the number of a name in it.
 #[derive(Clone, Copy, PartialEq, Eq, Hash)]
@@ -13,6 +13,43 @@ impl Symbol {
         Symbol {
             module: (number >> 62) as u32,
             number: number as u32,
+        }
+    }
+}
+
+/// A month, in one byte.
+#[derive(Clone, Copy, PartialEq, Eq, Hash)]
+pub enum Month {
+    January,
+    February,
+    March,
+    April,
+    May,
+    June,
+    July,
+    August,
+    September,
+    October,
+    November,
+    December,
+}
+
+impl Month {
+    /// Returns the month at this index of a year.
+    pub fn of(number: u64) -> Month {
+        match number {
+            0 => Month::January,
+            1 => Month::February,
+            2 => Month::March,
+            3 => Month::April,
+            4 => Month::May,
+            5 => Month::June,
+            6 => Month::July,
+            7 => Month::August,
+            8 => Month::September,
+            9 => Month::October,
+            10 => Month::November,
+            _ => Month::December,
         }
     }
 }

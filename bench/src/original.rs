@@ -23,7 +23,7 @@ pub use set_runs::*;
 pub use vectors::*;
 
 use crate::inputs::{half, letter};
-use crate::keys::{Header, Symbol};
+use crate::keys::{Header, Month, Symbol};
 use vecmap::{VecMap, VecSet};
 
 map_loops!(VecMap, remove, VecMap::last, VecMap::from);

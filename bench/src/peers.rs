@@ -3,7 +3,7 @@
 /// indexmap, with its own hasher.
 pub mod index {
     use crate::inputs::{half, letter};
-    use crate::keys::{Header, Symbol};
+    use crate::keys::{Header, Month, Symbol};
     use indexmap::{IndexMap, IndexSet};
 
     pub const NAME: &str = "indexmap";
@@ -28,7 +28,7 @@ pub mod index {
 /// linear-map.
 pub mod linear {
     use crate::inputs::{half, letter};
-    use crate::keys::{Header, Symbol};
+    use crate::keys::{Header, Month, Symbol};
     use linear_map::LinearMap;
     use linear_map::set::LinearSet;
 

@@ -38,19 +38,21 @@ macro_rules! library {
         use super::Input;
 
         calls! { $prefix, u64:
-            from_vec from_vec_counted from_iter from_iter_mapped extend append clone insert insert_reserved
-            insert_unique insert_unique_reserved index_or_insert move_index first_value_mut pair_mut insert_full
-            insert_present insert_full_present insert_at_present insert_at_absent entry_present entry_absent
-            count_words eq eq_reversed eq_not iter iter_back iter_both keys values iter_mut values_mut into_iter
-            large_insert large_insert_present large_remove large_swap_remove medium_remove large_from_vec
-            large_entry get place get_char sort_keys sort_by sort_by_cached_key sort_unstable_keys sort_unstable_by
-            binary_search_keys binary_search_by binary_search_by_key partition_point retain retain_all retain_others
-            drain drain_back drain_either split_off remove swap_remove remove_front remove_middle run calls
-            set_insert set_insert_unique set_move_index set_contains set_contains_u32 set_subset set_disjoint set_eq
-            set_from_vec set_difference set_intersection set_union set_symmetric_difference set_difference_back
-            set_and set_or set_sub set_xor set_iter set_remove set_swap_take set_retain set_retain_all set_drain
-            set_split_off set_sort set_sort_unstable set_binary_search set_run set_calls symbol_insert symbol_get
-            symbol_remove vec_clone vec_push vec_remove vec_insert vec_remove_large
+            from_vec from_vec_counted from_iter from_iter_mapped extend extend_refs append clone vecmap_of_4
+            insert insert_reserved insert_unique insert_unique_reserved index_or_insert move_index
+            first_value_mut pair_mut insert_full insert_present insert_full_present insert_at_present
+            insert_at_absent entry_present entry_absent count_words eq eq_moved eq_reversed eq_not iter
+            iter_back iter_both keys values iter_mut values_mut into_iter large_insert large_insert_present
+            large_remove large_swap_remove medium_remove large_from_vec large_entry get place get_mut
+            contains_key get_char sort_keys sort_by sort_by_cached_key sort_unstable_keys sort_unstable_by
+            binary_search_keys binary_search_by binary_search_by_key partition_point retain retain_all
+            retain_others drain drain_back drain_either pop split_off remove swap_remove remove_front
+            remove_middle run calls set_insert set_insert_unique set_move_index set_contains set_contains_u32
+            set_subset set_disjoint set_eq set_eq_both set_clone set_extend set_append set_from_vec
+            set_difference set_intersection set_union set_symmetric_difference set_difference_back set_and
+            set_or set_sub set_xor set_iter set_remove set_swap_take set_retain set_retain_all set_drain
+            set_split_off set_sort set_sort_unstable set_binary_search set_run set_calls symbol_insert
+            symbol_get symbol_remove month_insert month_get vec_clone vec_push vec_remove vec_insert
         }
 
         calls! { $prefix, u8:

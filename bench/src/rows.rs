@@ -1,40 +1,41 @@
 //! The rows: each loop that is timed or counted, with its input.
 //!
-//! - Lookups: as many probes as keys, all present (`hit`), none present (`miss`), or half of them. `char keys` has
-//!   characters as keys and values of 32 bits, and `u32` elements of 32 bits.
+//! - Lookups: as many probes as keys, all present (`hit`), none present (`miss`), or half of them. `get_mut` writes each
+//!   value that it finds. `char keys` has characters as keys and values of 32 bits, and `u32` elements of 32 bits.
 //! - Insertions: `insert new` starts with `new()`, `reserved` with `with_capacity`. `insert_at present` moves a key
 //!   to a random index, `insert_at absent` inserts each new key in the middle. `count words` and `count lines` count
-//!   by `entry`.
+//!   by `entry`. `vecmap! of 4` creates a map of four pairs.
 //! - Added calls, which the original lacks, in a table of their own. `insert_unique` requires that the key is absent, and
 //!   compares nothing. The keys are the numbers from 0 on, as many as in the other rows, so each is known to be new. The
 //!   original's side has `insert` of the same keys. `index_or_try_insert_with` finds each key, and `get_value_at_mut`
 //!   writes its value; the original's side has `entry`. `move_index` moves the first pair to the back; the original's
 //!   side has `remove_index` and `insert_at`, or `insert` of sets. Beside `first_value_mut` and `pair_mut` are `first_mut`
 //!   and `get_index_mut`.
-//! - Removals: `remove_index` removes all pairs of a clone. `retain`, `drain` and `split_off` remove half of a
-//!   clone. `retain all` removes nothing of it, and `drain all` removes all of it from the back. The times include
-//!   the clone. `retain others` and `drain either half` remove other pairs in each round, which no branch predictor
-//!   knows.
+//! - Removals: `remove_index` and `pop` remove all pairs of a clone. `retain`, `drain` and `split_off` remove half of a
+//!   clone. `retain all` removes nothing of it, and `drain all` removes all of it from the back. `retain others` and
+//!   `drain either half` remove other pairs in each round, which no branch predictor knows.
+//! - Clones: a row that changes a clone in each round names the row of that clone, whose time is subtracted from its own.
+//!   `clone, by value` is an iteration of a clone, and includes it.
 //! - Bulk: `From<Vec>` and `from_iter` take a vector of pairs that is created in the loop, with distinct keys or
 //!   with about four pairs for each key. `mapped` is an iterator over a slice. `From<Vec> counted` compares
-//!   `from_vec_counted` with the original's `From`. `extend` and `append` insert as many pairs as a clone has, half
-//!   of them with existing keys, into that clone.
-//! - Equality: before each comparison, one value of each map is written, or two elements of a set are swapped, so
-//!   that the compiler cannot compare once for all rounds.
+//!   `from_vec_counted` with the original's `From`. `extend`, `extend_refs` and `append` insert as many pairs as a clone
+//!   has, half of them with existing keys, into that clone.
+//! - Equality: before each comparison, one value of each map is written, so that the compiler cannot compare once for all
+//!   rounds. Of sets, the first two elements of one set are swapped, and in `same order` and `one moved` those of both. In
+//!   `one moved`, what is in the middle of one side is at the end of the other.
 //! - Iteration: a checksum of all pairs, from the front, the back, or both ends alternately.
 //! - Orders: sorts of a clone that is in random order, and searches of a sorted map.
 //! - Sets: the same rows, and set operations on two sets of which one has half of the other's elements, as lazy
 //!   iterators and as new sets.
 //! - Large: values of 128 bytes; `64-byte remove+insert` has pairs of 64 bytes.
-//! - Texts: keys of 13 bytes, in pairs of 32 bytes, and keys of 188 bytes with a long common prefix.
+//! - Texts: keys of 13 bytes, in pairs of 32 bytes, keys of 6 bytes, and keys of 188 bytes with a long common prefix.
 //! - Keys with an `==` of their own: a symbol is a struct of two numbers of 32 bits, and a header is a number or a
-//!   text of 13 bytes.
+//!   text of 13 bytes. A month is one of twelve, an enum of one byte.
 //! - Documents: those of `attr_doc`, with eight names in a section, compared with the same documents over the
 //!   original's maps. `attr_doc` compares eight bytes of two names at once, and the other side calls Rust's
 //!   `eq_ignore_ascii_case`, which compares sixteen at once, and shorter names byte by byte.
 //! - Vectors: a clone, pushes, removals and insertions at the front of a plain vector of pairs, of the kit and of
-//!   Rust, in a table of their own. `Vec remove, large` removes pairs of 136 bytes at random indices. Rows that
-//!   create, clone or shift a list contain this work.
+//!   Rust, in a table of their own. Rows that create, clone or shift a list contain this work.
 //! - Many entries: with 1,000 entries or more, only lookups, insertions, `From<Vec>` and equality are timed, in a table
 //!   of their own.
 //! - Commands: `1000 commands` is a mix of calls, on about as many keys as the size says. `run of 1000` and `run_set
@@ -56,6 +57,8 @@ pub struct Row<'a, T> {
     pub steps: usize,
     pub keys: &'a [T],
     pub probes: &'a [T],
+    /// The name of the row of a clone, and how many such clones a round makes. Their time is subtracted.
+    pub clones: Option<(&'static str, u32)>,
     /// The loops. The first is that over the original.
     pub loops: Vec<(&'static str, Loop<T>)>,
 }
@@ -90,6 +93,12 @@ const MOST: usize = 512;
 /// The sizes of the rows of commands and of documents.
 pub const SIZES_OF_PROGRAMS: [usize; 4] = [8, 32, 128, 512];
 
+/// The greatest size of the rows of months.
+const MOST_MONTHS: usize = 8;
+
+/// The size of the row of a macro.
+const SIZE_OF_MACRO: usize = 4;
+
 // A row with its name, its operations, its two inputs, and the name of its loop. An earlier state need not have it.
 macro_rules! new_row {
     ($name:literal, $steps:expr, $keys:expr, $probes:expr, $loop:ident) => {{
@@ -100,6 +109,7 @@ macro_rules! new_row {
             steps: $steps,
             keys: $keys,
             probes: $probes,
+            clones: None,
             loops,
         }
     }};
@@ -118,6 +128,14 @@ macro_rules! row {
         )*
         row
     }};
+}
+
+/// Returns the same rows, whose rounds clone what the row of this name clones.
+fn with_clone<'a, T>(name: &'static str, mut rows: Vec<Row<'a, T>>) -> Vec<Row<'a, T>> {
+    for row in &mut rows {
+        row.clones = Some((name, 1));
+    }
+    rows
 }
 
 // The same row with its loop over the kit's indexmap.
@@ -158,6 +176,12 @@ pub fn numbers(it: &Numbers) -> Vec<Row<'_, u64>> {
     rows.extend(set_pairs(it));
     rows.extend(large(it));
     rows.extend(symbols(it));
+    if it.keys.len() <= MOST_MONTHS {
+        rows.extend(months(it));
+    }
+    if it.keys.len() == SIZE_OF_MACRO {
+        rows.push(row!("vecmap! of 4", 1, &it.keys, &[], vecmap_of_4));
+    }
     if SIZES_OF_PROGRAMS.contains(&it.keys.len()) {
         rows.extend(runs(it));
     }
@@ -171,6 +195,8 @@ fn lookups(it: &Numbers) -> Vec<Row<'_, u64>> {
         with_kit!(row!("get hit", n, &it.keys, &it.hits, get, linear, index), get),
         with_kit!(row!("get miss", n, &it.keys, &it.misses, get, linear, index), get),
         row!("get_index_of", n, &it.keys, &it.mixed, place, index),
+        row!("get_mut", n, &it.keys, &it.hits, get_mut, linear, index),
+        row!("contains_key", n, &it.keys, &it.mixed, contains_key, linear, index),
         row!("get, char keys", n, &it.keys, &it.mixed, get_char, linear, index),
     ]
 }
@@ -212,11 +238,14 @@ fn added(it: &Numbers) -> Vec<Row<'_, u64>> {
 
 fn removals(it: &Numbers) -> Vec<Row<'_, u64>> {
     let n = it.keys.len();
-    vec![
+    let mut rows = vec![
         row!("remove+insert", 8 * n, &it.keys, &it.orders, remove, linear, index),
         row!("swap_remove+insert", 8 * n, &it.keys, &it.orders, swap_remove, index),
+    ];
+    let of_clones = vec![
         row!("remove_index front", n, &it.keys, &[], remove_front, index),
         row!("remove_index middle", n, &it.keys, &[], remove_middle, index),
+        row!("pop all", n, &it.keys, &[], pop),
         row!("retain half", n, &it.keys, &[], retain),
         row!("retain all", n, &it.keys, &[], retain_all),
         row!("retain others", n, &it.keys, &[], retain_others),
@@ -224,25 +253,35 @@ fn removals(it: &Numbers) -> Vec<Row<'_, u64>> {
         row!("drain either half", n, &it.keys, &[], drain_either),
         row!("drain all, back", n, &it.keys, &[], drain_back),
         row!("split_off half", n, &it.keys, &[], split_off),
-    ]
+    ];
+    rows.extend(with_clone("clone", of_clones));
+    rows
 }
 
 fn bulk(it: &Numbers) -> Vec<Row<'_, u64>> {
     let n = it.keys.len();
-    vec![
+    let mut rows = vec![
         row!("From<Vec> distinct", n, &it.keys, &[], from_vec, linear, index),
         row!("From<Vec> counted", n, &it.keys, &[], from_vec_counted),
         row!("From<Vec> repeats", n, &it.repeats, &[], from_vec, linear, index),
         row!("from_iter distinct", n, &it.keys, &[], from_iter, linear, index),
         row!("from_iter repeats", n, &it.repeats, &[], from_iter, linear, index),
         row!("from_iter, mapped", n, &it.keys, &[], from_iter_mapped),
-        row!("extend half there", n, &it.keys, &it.half, extend, linear, index),
-        row!("append half there", n, &it.keys, &it.half, append),
         row!("clone", n, &it.keys, &[], clone, linear, index),
         row!("== same order", n, &it.keys, &[], eq, index),
+        row!("== one moved", n, &it.keys, &it.moved, eq_moved, index),
         row!("== reversed", n, &it.keys, &[], eq_reversed, index),
         row!("!= at the last", n, &it.keys, &[], eq_not, index),
-    ]
+    ];
+    let of_clones = vec![
+        row!("extend half there", n, &it.keys, &it.half, extend, linear, index),
+        row!("extend_refs half there", n, &it.keys, &it.half, extend_refs),
+    ];
+    rows.extend(with_clone("clone", of_clones));
+    let mut append = row!("append half there", n, &it.keys, &it.half, append);
+    append.clones = Some(("clone", 2));
+    rows.push(append);
+    rows
 }
 
 fn iteration(it: &Numbers) -> Vec<Row<'_, u64>> {
@@ -261,37 +300,50 @@ fn iteration(it: &Numbers) -> Vec<Row<'_, u64>> {
 
 fn orders(it: &Numbers) -> Vec<Row<'_, u64>> {
     let n = it.keys.len();
-    vec![
+    let sorts = vec![
         row!("sort_keys", n, &it.keys, &[], sort_keys),
         row!("sort_by", n, &it.keys, &[], sort_by),
         row!("sort_by_cached_key", n, &it.keys, &[], sort_by_cached_key),
         row!("sort_unstable_keys", n, &it.keys, &[], sort_unstable_keys),
         row!("sort_unstable_by", n, &it.keys, &[], sort_unstable_by),
+    ];
+    let mut rows = with_clone("clone", sorts);
+    rows.extend([
         row!("binary_search_keys", n, &it.keys, &it.mixed, binary_search_keys),
         row!("binary_search_by", n, &it.keys, &it.mixed, binary_search_by),
         row!("binary_search_by_key", n, &it.keys, &it.mixed, binary_search_by_key),
         row!("partition_point", n, &it.keys, &it.mixed, partition_point),
-    ]
+    ]);
+    rows
 }
 
 fn sets(it: &Numbers) -> Vec<Row<'_, u64>> {
     let n = it.keys.len();
-    vec![
+    let mut rows = vec![
         row!("set insert", n, &it.keys, &[], set_insert, linear, index),
         row!("set contains", n, &it.keys, &it.mixed, set_contains, linear, index),
         row!("set contains, u32", n, &it.keys, &it.mixed, set_contains_u32, linear, index),
         row!("set remove+insert", 8 * n, &it.keys, &it.orders, set_remove),
         row!("set swap_take+insert", 8 * n, &it.keys, &it.orders, set_swap_take),
         row!("set From<Vec>", n, &it.keys, &[], set_from_vec, linear, index),
+        row!("set clone", n, &it.keys, &[], set_clone),
         row!("set iter", n, &it.keys, &[], set_iter),
+        row!("set binary_search", n, &it.keys, &it.mixed, set_binary_search),
+    ];
+    let of_clones = vec![
         row!("set retain half", n, &it.keys, &[], set_retain),
         row!("set retain all", n, &it.keys, &[], set_retain_all),
         row!("set drain half", n, &it.keys, &[], set_drain),
         row!("set split_off half", n, &it.keys, &[], set_split_off),
         row!("set sort", n, &it.keys, &[], set_sort),
         row!("set sort_unstable", n, &it.keys, &[], set_sort_unstable),
-        row!("set binary_search", n, &it.keys, &it.mixed, set_binary_search),
-    ]
+        row!("set extend half there", n, &it.keys, &it.half, set_extend),
+    ];
+    rows.extend(with_clone("set clone", of_clones));
+    let mut append = row!("set append half there", n, &it.keys, &it.half, set_append);
+    append.clones = Some(("set clone", 2));
+    rows.push(append);
+    rows
 }
 
 fn set_pairs(it: &Numbers) -> Vec<Row<'_, u64>> {
@@ -301,6 +353,8 @@ fn set_pairs(it: &Numbers) -> Vec<Row<'_, u64>> {
         row!("set is_disjoint", n, &it.keys, &it.misses, set_disjoint, index),
         row!("set ==", n, &it.keys, &it.keys, set_eq, index),
         row!("set == shuffled", n, &it.keys, &it.hits, set_eq, index),
+        row!("set == same order", n, &it.keys, &it.keys, set_eq_both, index),
+        row!("set == one moved", n, &it.keys, &it.moved, set_eq_both, index),
         row!("set difference", n, &it.keys, &it.half, set_difference),
         row!("set difference, back", n, &it.keys, &it.half, set_difference_back),
         row!("set intersection", n, &it.keys, &it.half, set_intersection),
@@ -335,6 +389,15 @@ fn symbols(it: &Numbers) -> Vec<Row<'_, u64>> {
     ]
 }
 
+// Keys of one byte.
+fn months(it: &Numbers) -> Vec<Row<'_, u64>> {
+    let n = it.keys.len();
+    vec![
+        row!("month get hit", n, &it.places, &it.shuffled_places, month_get, linear, index),
+        row!("month insert new", n, &it.places, &[], month_insert, linear, index),
+    ]
+}
+
 // The same commands as calls of the original, as calls of this library and by its `run`. In the rows of runs, the side
 // of the original has the same commands and replies as values, too.
 fn runs(it: &Numbers) -> Vec<Row<'_, u64>> {
@@ -353,13 +416,12 @@ fn runs(it: &Numbers) -> Vec<Row<'_, u64>> {
 // The same loops over a plain vector of either side.
 fn vectors(it: &Numbers) -> Vec<Row<'_, u64>> {
     let n = it.keys.len();
-    let mut rows = vec![
+    let mut rows = with_clone("Vec clone", vec![row!("Vec remove(0)", n, &it.keys, &[], vec_remove)]);
+    rows.extend([
         row!("Vec clone", n, &it.keys, &[], vec_clone),
         row!("Vec push", n, &it.keys, &[], vec_push),
-        row!("Vec remove(0)", n, &it.keys, &[], vec_remove),
         row!("Vec insert(0)", n, &it.keys, &[], vec_insert),
-        row!("Vec remove, large", 8 * n, &it.keys, &it.orders, vec_remove_large),
-    ];
+    ]);
     for row in &mut rows {
         row.loops[1].0 = VECTOR;
     }
@@ -391,6 +453,7 @@ pub fn texts(it: &Texts, n: usize) -> Vec<Row<'_, u8>> {
         with_kit!(row!("String get_str hit", n, &it.keys, &it.hits, text_get, linear, index), text_get),
         with_kit!(row!("String get_str miss", n, &it.keys, &it.misses, text_get, linear, index), text_get),
         row!("String get hit", n, &it.keys, &it.hits, string_get, linear, index),
+        row!("6-byte get_str hit", n, &it.short_keys, &it.short_hits, text_get, linear, index),
         row!("188-byte get_str hit", n, &it.long_keys, &it.long_hits, text_get, linear, index),
     ];
     rows.extend([

@@ -2,7 +2,7 @@
 //!
 //! It prints a line for each loop except the original's: the row, the size, the name of the library, the least
 //! nanoseconds of an operation of the original and of this loop, and the median of the ratios to the original, sample
-//! by sample.
+//! by sample. The time of a loop is without what it creates before the first round, and without its clones.
 #[macro_use]
 mod loops;
 mod inputs;
@@ -25,7 +25,8 @@ struct Settings {
     /// The least time of a sample.
     seconds: f64,
     /// The library whose loops of the rows of just these names run once, and the number of their rounds. Then nothing is
-    /// timed, and the numbers of operations of a round are printed.
+    /// timed. It prints the number of operations of a round, and of a row that clones also the number of clones, and the
+    /// name of the row of the clone.
     counted: Option<(String, u64)>,
 }
 
@@ -66,6 +67,22 @@ fn rounds_timed<T>(row: &Row<T>, run: Loop<T>, rounds: u64) -> f64 {
     f64::max(timed(row, run, rounds).0 - setup, 1e-9)
 }
 
+/// The same, without the clones that the rounds make, if `clone` is the loop that makes one in each round.
+fn rounds_less_clones<T>(row: &Row<T>, run: Loop<T>, clone: Option<Loop<T>>, rounds: u64) -> f64 {
+    let seconds = rounds_timed(row, run, rounds);
+    let (Some((_, count)), Some(clone)) = (row.clones, clone) else {
+        return seconds;
+    };
+    f64::max(seconds - f64::from(count) * rounds_timed(row, clone, rounds), 1e-9)
+}
+
+/// Returns the loops of the row of the clone, one for each loop of a row that clones.
+fn clones_of<T>(rows: &[Row<T>], row: &Row<T>) -> Vec<Option<Loop<T>>> {
+    let clones = row.clones.and_then(|(name, _)| rows.iter().find(|it| it.name == name));
+    let clone_of = |who: &str| Some(clones?.loops.iter().find(|it| it.0 == who)?.1);
+    row.loops.iter().map(|it| clone_of(it.0)).collect()
+}
+
 /// Returns the number of rounds that the original needs for a sample: they take longer than the setup.
 fn rounds_of<T>(row: &Row<T>, seconds: f64) -> u64 {
     let setup = timed(row, row.loops[0].1, 0).0;
@@ -89,13 +106,19 @@ fn median(mut xs: Vec<f64>) -> f64 {
     xs[xs.len() / 2]
 }
 
-fn time<T>(settings: &Settings, row: &Row<T>, n: usize) {
+/// Runs the loop of a library once, if the row is counted, and prints what a round does.
+fn count<T>(settings: &Settings, row: &Row<T>, library: &str, rounds: u64) {
+    let is_chosen = settings.only.iter().any(|name| row.name == name);
+    for (_, run) in row.loops.iter().filter(|it| is_chosen && it.0 == library) {
+        timed(row, *run, rounds);
+        let clones = row.clones.map(|(name, count)| format!("\t{count}\t{name}"));
+        println!("{}{}", row.steps, clones.unwrap_or_default());
+    }
+}
+
+fn time<T>(settings: &Settings, rows: &[Row<T>], row: &Row<T>, n: usize) {
     if let Some((library, rounds)) = &settings.counted {
-        let is_chosen = settings.only.iter().any(|name| row.name == name);
-        for (_, run) in row.loops.iter().filter(|it| is_chosen && it.0 == library) {
-            timed(row, *run, *rounds);
-            println!("{}", row.steps);
-        }
+        count(settings, row, library, *rounds);
         return;
     }
     let chosen = |word: &String| row.name.contains(word.as_str());
@@ -106,12 +129,14 @@ fn time<T>(settings: &Settings, row: &Row<T>, n: usize) {
     for rounds in [0, 1, rounds] {
         check(row, rounds);
     }
+    let clones = clones_of(rows, row);
+    assert!(row.clones.is_none() || clones.iter().all(Option::is_some), "{}", row.name);
     let count = row.loops.len();
     let mut samples = vec![Vec::new(); count];
     for s in 0..settings.samples {
         for at in 0..count {
             let i = (at + s) % count;
-            samples[i].push(rounds_timed(row, row.loops[i].1, rounds));
+            samples[i].push(rounds_less_clones(row, row.loops[i].1, clones[i], rounds));
         }
     }
     let least = |i: usize| samples[i].iter().copied().fold(f64::MAX, f64::min);
@@ -126,6 +151,12 @@ fn time<T>(settings: &Settings, row: &Row<T>, n: usize) {
             nanoseconds(i),
             median(ratios.collect())
         );
+    }
+}
+
+fn time_all<T>(settings: &Settings, rows: &[Row<T>], n: usize) {
+    for row in rows {
+        time(settings, rows, row, n);
     }
 }
 
@@ -148,21 +179,13 @@ fn main() {
     };
     for n in sizes("SIZES", "2 4 8 16 32 128 512 1000 10000") {
         let inputs = Numbers::of(n);
-        for row in rows::numbers(&inputs) {
-            time(&settings, &row, n);
-        }
-        for row in rows::texts(&Texts::of(&inputs), n) {
-            time(&settings, &row, n);
-        }
+        time_all(&settings, &rows::numbers(&inputs), n);
+        time_all(&settings, &rows::texts(&Texts::of(&inputs), n), n);
     }
     #[cfg(kit)]
     for n in sizes("KIT_SIZES", "24 48 64 96") {
         let inputs = Numbers::of(n);
-        for row in rows::beside_kit(rows::numbers(&inputs)) {
-            time(&settings, &row, n);
-        }
-        for row in rows::beside_kit(rows::texts(&Texts::of(&inputs), n)) {
-            time(&settings, &row, n);
-        }
+        time_all(&settings, &rows::beside_kit(rows::numbers(&inputs)), n);
+        time_all(&settings, &rows::beside_kit(rows::texts(&Texts::of(&inputs), n)), n);
     }
 }

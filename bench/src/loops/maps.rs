@@ -51,6 +51,27 @@ macro_rules! map_loops {
         }
 
         #[inline(never)]
+        pub fn get_mut(keys: &[u64], probes: &[u64], rounds: u64) -> u64 {
+            let mut map = filled(keys);
+            rounds!(rounds, probes, |sum, round, probe| {
+                if let Some(value) = map.get_mut(probe) {
+                    sum = sum.wrapping_add(*value);
+                    *value = *value ^ round;
+                }
+            })
+        }
+
+        #[inline(never)]
+        pub fn contains_key(keys: &[u64], probes: &[u64], rounds: u64) -> u64 {
+            let map = filled(keys);
+            rounds!(rounds, probes, |sum, round, probe| {
+                if map.contains_key(probe) {
+                    sum = sum.wrapping_add(*probe ^ round);
+                }
+            })
+        }
+
+        #[inline(never)]
         pub fn insert(keys: &[u64], _: &[u64], rounds: u64) -> u64 {
             rounds!(rounds, |sum, round| {
                 let mut map = $map::new();

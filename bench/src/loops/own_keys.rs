@@ -1,4 +1,4 @@
-//! Loops over maps whose keys have an `==` of their own.
+//! Loops over maps whose keys are structs and enums.
 
 /// Loops over any map. `$remove` and `$remove_entry` keep the order.
 macro_rules! own_key_loops {
@@ -47,6 +47,42 @@ macro_rules! own_key_loops {
                 if let Some(value) = map.$remove(probe) {
                     sum = sum.wrapping_add(value);
                     map.insert(*probe, value ^ round);
+                }
+            })
+        }
+
+        fn months(numbers: &[u64]) -> Vec<Month> {
+            let mut months = Vec::with_capacity(numbers.len());
+            for number in numbers {
+                months.push(Month::of(*number));
+            }
+            months
+        }
+
+        fn month_filled(keys: &[Month], value: u64) -> $map<Month, u64> {
+            let mut map = $map::new();
+            for key in keys {
+                map.insert(*key, value);
+            }
+            map
+        }
+
+        #[inline(never)]
+        pub fn month_insert(keys: &[u64], _: &[u64], rounds: u64) -> u64 {
+            let keys = months(keys);
+            rounds!(rounds, |sum, round| {
+                let map = month_filled(&keys, round);
+                sum = sum.wrapping_add(map.len() as u64 ^ round);
+            })
+        }
+
+        #[inline(never)]
+        pub fn month_get(keys: &[u64], probes: &[u64], rounds: u64) -> u64 {
+            let map = month_filled(&months(keys), 3);
+            let probes = months(probes);
+            rounds!(rounds, probes.iter(), |sum, round, probe| {
+                if let Some(value) = map.get(probe) {
+                    sum = sum.wrapping_add(*value ^ round);
                 }
             })
         }

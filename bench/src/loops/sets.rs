@@ -105,5 +105,18 @@ macro_rules! placed_set_loops {
                 }
             })
         }
+
+        #[inline(never)]
+        pub fn set_eq_both(items: &[u64], others: &[u64], rounds: u64) -> u64 {
+            let mut set = set_filled(items);
+            let mut other = set_filled(others);
+            rounds!(rounds, |sum, round| {
+                turn(&mut set);
+                turn(&mut other);
+                if set == other {
+                    sum = sum.wrapping_add(round);
+                }
+            })
+        }
     };
 }

@@ -1,7 +1,7 @@
 //! Calls that the peers do not have: insertions at an index, insertions of keys that are known to be new, insertions by a
-//! query, moves to an index, a map that is appended to another, and counted comparisons.
+//! query, moves to an index, a map that is appended to another or extends it, counted comparisons, and a macro.
 use super::{filled, mark, pairs};
-use vecmap::VecMap;
+use vecmap::{VecMap, vecmap};
 
 /// The original does not count, but for distinct keys the number of comparisons is known.
 #[inline(never)]
@@ -102,6 +102,29 @@ pub fn pair_mut(keys: &[u64], probes: &[u64], rounds: u64) -> u64 {
 pub fn from_iter_mapped(keys: &[u64], _: &[u64], rounds: u64) -> u64 {
     rounds!(rounds, |sum, round| {
         let map = VecMap::from_iter(keys.iter().map(|key| (*key, key.wrapping_mul(3))));
+        sum = sum.wrapping_add(mark(&map) ^ round);
+    })
+}
+
+#[inline(never)]
+pub fn extend_refs(keys: &[u64], probes: &[u64], rounds: u64) -> u64 {
+    let full = filled(keys);
+    let others = filled(probes);
+    rounds!(rounds, |sum, round| {
+        let mut map = full.clone();
+        map.extend(others.iter());
+        sum = sum.wrapping_add(mark(&map) ^ round);
+    })
+}
+
+// Other sizes than four have no such row.
+#[inline(never)]
+pub fn vecmap_of_4(keys: &[u64], _: &[u64], rounds: u64) -> u64 {
+    let [a, b, c, d] = keys else {
+        return u64::MAX;
+    };
+    rounds!(rounds, |sum, round| {
+        let map = vecmap! { *a => round, *b => 2, *c => 3, *d => 4 };
         sum = sum.wrapping_add(mark(&map) ^ round);
     })
 }

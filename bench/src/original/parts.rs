@@ -77,6 +77,20 @@ pub fn drain_back(keys: &[u64], _: &[u64], rounds: u64) -> u64 {
     })
 }
 
+// All pairs are removed, one by one.
+#[inline(never)]
+pub fn pop(keys: &[u64], _: &[u64], rounds: u64) -> u64 {
+    let full = filled(keys);
+    rounds!(rounds, |sum, round| {
+        let mut map = full.clone();
+        for _ in keys {
+            if let Some((key, value)) = map.pop() {
+                sum = sum.wrapping_mul(3).wrapping_add(key ^ value ^ round);
+            }
+        }
+    })
+}
+
 #[inline(never)]
 pub fn split_off(keys: &[u64], _: &[u64], rounds: u64) -> u64 {
     let full = filled(keys);

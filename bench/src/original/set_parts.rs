@@ -1,4 +1,4 @@
-//! Sets: iteration, removals, parts, sorts and searches.
+//! Sets: iteration, removals, clones, parts, extensions, sorts and searches.
 use super::order::either;
 use super::{set_filled as filled, set_mark as mark};
 use vecmap::VecSet;
@@ -69,6 +69,15 @@ pub fn set_move_index(keys: &[u64], probes: &[u64], rounds: u64) -> u64 {
     })
 }
 
+#[inline(never)]
+pub fn set_clone(keys: &[u64], _: &[u64], rounds: u64) -> u64 {
+    let full = filled(keys);
+    rounds!(rounds, |sum, round| {
+        let set = full.clone();
+        sum = sum.wrapping_add(mark(&set) ^ round);
+    })
+}
+
 // About half of the elements are kept.
 #[inline(never)]
 pub fn set_retain(keys: &[u64], _: &[u64], rounds: u64) -> u64 {
@@ -113,6 +122,28 @@ pub fn set_split_off(keys: &[u64], _: &[u64], rounds: u64) -> u64 {
         let half = set.len() / 2;
         let part = set.split_off(half);
         sum = sum.wrapping_add(mark(&set) ^ mark(&part) ^ round);
+    })
+}
+
+#[inline(never)]
+pub fn set_extend(keys: &[u64], probes: &[u64], rounds: u64) -> u64 {
+    let full = filled(keys);
+    rounds!(rounds, |sum, round| {
+        let mut set = full.clone();
+        set.extend(probes);
+        sum = sum.wrapping_add(mark(&set) ^ round);
+    })
+}
+
+#[inline(never)]
+pub fn set_append(keys: &[u64], probes: &[u64], rounds: u64) -> u64 {
+    let full = filled(keys);
+    let others = filled(probes);
+    rounds!(rounds, |sum, round| {
+        let mut set = full.clone();
+        let mut other = others.clone();
+        set.append(&mut other);
+        sum = sum.wrapping_add(mark(&set) ^ round);
     })
 }
 

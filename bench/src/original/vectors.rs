@@ -49,19 +49,6 @@ pub fn vec_insert(keys: &[u64], _: &[u64], rounds: u64) -> u64 {
     })
 }
 
-// Pairs of 136 bytes are removed and appended again.
-#[inline(never)]
-pub fn vec_remove_large(keys: &[u64], probes: &[u64], rounds: u64) -> u64 {
-    let mut list: Vec<(u64, [u64; 16])> = keys.iter().map(|key| (*key, [*key; 16])).collect();
-    rounds!(rounds, probes, |sum, round, probe| {
-        if let Some(index) = list.iter().position(|pair| pair.0 == *probe) {
-            let pair = list.remove(index);
-            sum = sum.wrapping_add(pair.1[3] ^ round);
-            list.push(pair);
-        }
-    })
-}
-
 // Returns the key of the last pair, and 0 if there is none.
 fn last_key(list: &[(u64, u64)]) -> u64 {
     match list.last() {
