@@ -1,11 +1,12 @@
 -- The records of calls that add or copy many elements, from the list that is left.
 use Rattle.std.specs.{Cmp.IsEquivalence, List.IsDistinct, Set.is_member}
-use Rattle.std.proofs.Common.{◌≡◌, ◌∙◌, ◌+◌, ◌++◌, ◌<◌, ◌≤◌, Bool, Contains, IsTrue, List, [], ◌∷◌, ap, arith, false, if◌then◌else◌, length, length-append, subst, sym, true}
-use Rattle.std.proofs.lemmas.{Bool.or_right, List.append-nil, List.append_assoc, Map.Made.length-le_from_is_member}
-use Rattle.vecmap_base.specs.{Clones.AreClones, Items.adds}
-use Rattle.vecmap_base.proofs.{DistinctLemmas.Absent.distinct_none, DistinctLemmas.Additions.{distinct_adds, distinct_append}}
+use Rattle.std.proofs.Common.{◌≡◌, ◌∙◌, ◌+◌, ◌++◌, ◌<◌, ◌≤◌, Bool, Contains, IsTrue, List, [], ◌∷◌, ap, arith, false, if◌then◌else◌, length, length-append, subst, sym, take, true}
+use Rattle.std.proofs.{Math.Seq.take-append_seam}
+use Rattle.std.proofs.lemmas.{Bool.or_right, List.append-nil, List.append_assoc, List.Sums.fold-append, Map.Made.length-le_from_is_member}
+use Rattle.vecmap_base.specs.{Clones.AreClones, Items.{add, adds}}
+use Rattle.vecmap_base.proofs.{DistinctLemmas.Absent.{distinct_none, none_before}, DistinctLemmas.Additions.{distinct_adds, distinct_append}}
 use Rattle.vecmap_base.proofs.EqualityLemmas.{Relations.{apart_if_none_shared, both_empty_turned}, Sets.same_items}
-use Rattle.vecmap_base.proofs.{ItemsLemmas.Additions.adds_apart, ItemsLemmas.Changes.is_member_clones, ItemsLemmas.Members.is_member_adds}
+use Rattle.vecmap_base.proofs.{ItemsLemmas.Additions.{add_present, adds_apart}, ItemsLemmas.Changes.is_member_clones, ItemsLemmas.Members.is_member_adds}
 use Rattle.vecmap_set.specs.SetBulk.{AddsClones, AddsItems, CopiesItems, JoinsItems}
 use Rattle.vecmap_set.proofs.{IndexLemmas.indices_appended, SetLemmas.distinct_clones_of}
 
@@ -31,6 +32,24 @@ module _ {T : Type 0} (eq : T → T → Bool) (o : IsEquivalence eq) where
   added_some [] [] h = absurd (omega (arith, h))
   added_some [] (x ∷ xs) h = let more = appended (x ∷ []) xs in omega (arith, ap length more.1 ∙ length-append (x ∷ []) more.0)
   added_some (y ∷ s) xs h = let more = appended (y ∷ s) xs in omega (arith, ap length more.1 ∙ length-append (y ∷ s) more.0)
+
+  -- Additions append, so the front of the list is what it was.
+  pub front_of_adds : (s xs r : List T) → r ≡ adds eq s xs → take (length s) r ≡ s
+  front_of_adds s xs r e = let more = appended s xs in ap (take (length s)) (e ∙ more.1) ∙ take-append_seam s more.0
+
+  -- An element that was not in the list, and is added once, is not in it yet.
+  pub absent_from_adds : (s xs rest r : List T) (x : T) → r ≡ adds eq s xs → IsDistinct eq (xs ++ x ∷ rest) → is_member eq (take (length s) r) x ≡ false → is_member eq r x ≡ false
+  absent_from_adds s xs rest r x e d none =
+      let first : is_member eq s x ≡ false = subst (λ l. is_member eq l x ≡ false) (front_of_adds s xs r e) none in
+      let more : is_member eq xs x ≡ false = none_before eq o xs x rest d in
+      ap (λ l. is_member eq l x) e ∙ is_member_adds eq o s xs x ∙ grind (arith, first, more)
+
+  -- One more addition, of an element that was in the list.
+  pub adds_present : (s xs r : List T) (x : T) → r ≡ adds eq s xs → is_member eq (take (length s) r) x ≡ true → r ≡ adds eq s (xs ++ x ∷ [])
+  adds_present s xs r x e some =
+      let first : is_member eq s x ≡ true = subst (λ l. is_member eq l x ≡ true) (front_of_adds s xs r e) some in
+      let present : is_member eq (adds eq s xs) x ≡ true = is_member_adds eq o s xs x ∙ grind (arith, first) in
+      e ∙ sym (add_present eq (adds eq s xs) x present) ∙ sym (fold-append (add eq) s xs (x ∷ []))
 
   pub adds_items : (s xs r : List T) → IsDistinct eq s → r ≡ adds eq s xs → AddsItems eq s xs r
   adds_items s xs r d e =

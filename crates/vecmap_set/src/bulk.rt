@@ -7,6 +7,7 @@ ghost use Rattle.vecmap_set.specs.SetBulk.{Adds, AddsClones, AddsCopies, AddsIte
 
 use crate::VecSet;
 use std::alloc::{AllocError, Global};
+use vecmap_base::contains_item_inline;
 
 impl<T: Eq> VecSet<T> {
     /// Creates a set and adds the elements of an iterator, in order.
@@ -91,7 +92,8 @@ impl<T: Eq> VecSet<T> {
     ///
     /// # Complexity
     ///
-    /// One lookup for each element of `other`, with at most as many comparisons as the set then has elements.
+    /// One lookup for each element of `other`, with at most as many comparisons as this set had elements before. So the
+    /// call compares nothing if this set is empty.
     ///
     /// # Examples
     ///
@@ -118,8 +120,13 @@ impl<T: Eq> VecSet<T> {
         ensures other_err { OnErr result (Stays T.eq other.old other.new) }
     {
         self.reserve(other.len())?;
+
+        // No two elements of `other` are equal, so none is equal to one that the loop has added.
+        let len = self.len();
         for item in other.items.drain(..) {
-            let _added = self.insert(item).unwrap();
+            if !contains_item_inline(&self.items[..len], &item) {
+                self.insert_unique(item).unwrap();
+            }
         }
         Ok(())
     }

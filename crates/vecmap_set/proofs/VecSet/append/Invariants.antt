@@ -5,6 +5,7 @@ use Rattle.vecmap_set.proofs.VecSet.append.Given as goal
 abbrev pub invariant-loop-item : goal.invariant-loop-item
 invariant-loop-item g l = record {
   elements : l.self.elements ≡ adds g.T.PartialEq.eq l.fn.self.elements l.yielded;
+  long : length l.fn.self.elements ≤ length l.self.elements;
   distinct : IsDistinct g.T.PartialEq.eq l.self.elements;
   rest : l.fn.other.elements ≡ l.yielded ++ drain_items l.item-iterator;
   room : length l.self.elements + length (drain_items l.item-iterator) ≤ l.self.capacity;
