@@ -3,9 +3,9 @@ use Rattle.std.specs.{Cmp.IsEquivalence, Map.keys_of, Option.option_map_or}
 use Rattle.std.proofs.Common.{◌≡◌, ◌∙◌, ◌+◌, ◌-◌, ◌≤◌, ◌++◌, ℕ, zero, suc, Bool, true, false, List, [], ◌∷◌, None, Option, Some, IsSome, ap, arith, if◌then◌else◌, insert, is_some, length, min, option_map, refl, remove, slice_get, sym, unwrap_or}
 use Rattle.std.proofs.{lemmas.List.{length-append, length-map}, lemmas.List.Edits.{length-insert, length-remove}}
 use Rattle.std.proofs.lemmas.Option.{none-some, slice_get_within}
-use Rattle.vecmap_base.specs.Insertions.{AddsKey, InsertsAt, PutsKey}
+use Rattle.vecmap_base.specs.Insertions.{AddsKey, InsertsAt, PutsKey, SetsKey}
 use Rattle.vecmap_base.specs.Pairs.{index_by, index_of, index_or_length, lookup, put, put_at, put_key, with_pair}
-use Rattle.vecmap_base.proofs.{MoveLemmas.{front_inserted, inserted_found}, PairsLemmas.AtIndices.{match_at, same_indices, stays}}
+use Rattle.vecmap_base.proofs.{IndexLemmas.slice_get_last, MoveLemmas.{front_inserted, inserted_found}, PairsLemmas.AtIndices.{match_at, same_indices, stays}}
 use Rattle.vecmap_base.proofs.{PairsLemmas.ByIndex.{index_by_none, is_some_lookup_by, put_key_by_index}, PairsLemmas.Lookups.updates_of_put}
 use Rattle.vecmap_base.proofs.{PairsLemmas.Indices.is_some_index_of, PairsLemmas.Keys.{keys_of_insert, keys_of_put}}
 use Rattle.vecmap_base.proofs.{PairsLemmas.Puts.{put_absent, put_stored}, PairsLemmas.Updates.{updates_put_at, updates_put_key}}
@@ -47,6 +47,22 @@ module _ {K V : Type 0} (eq : K → K → Bool) where
     -- After an insertion.
     pub adds_key : (l m : List (K × V)) (k : K) (v : V) → m ≡ put eq l k v → AddsKey eq l k v m
     adds_key l m k v e = grind (arith, (updates_of_put eq o l m k v e), index_put, indices_put, keys_put, length_put_by_lookup, put_absent, index_by_none, same_indices, put_found)
+
+    pub sets_key : (l m : List (K × V)) (k : K) (v : V) → m ≡ put eq l k v → SetsKey eq l k v m
+    sets_key l m k v e =
+        let a = adds_key l m k v e in
+        record {
+          entries = a.entries;
+          updates = a.updates;
+          index = a.index;
+          indices = a.indices;
+          kept = λ some. a.keys ∙ ap (λ b. if b then keys_of l else keys_of l ++ k ∷ []) some;
+          appended = a.appended;
+          last = λ absent. a.index ∙ ap (λ found. Some (unwrap_or found (length l))) (index_by_none (eq k) l absent);
+          pair = λ absent. ap (λ n. slice_get n (length l)) (a.appended absent) ∙ slice_get_last l (k, v);
+          stay = a.stay;
+          same = a.same;
+        }
 
     -- Each key has the same index after an insertion that keeps an equal key and after one that replaces it.
     pub index_of_put_key : (l : List (K × V)) (k : K) (v : V) (q : K) → index_of eq (put_key eq l k v) q ≡ index_of eq (put eq l k v) q

@@ -21,6 +21,22 @@ pub record AddsKey {K V : Type 0} (eq : K → K → Bool) (l : List (K × V)) (k
   pub stay : IsSome (lookup eq l k) → (test : K → Bool) → index_by test m ≡ index_by test l
   pub same : (w : V) → IsSome (lookup eq l k) → v ≡ unwrap_or (lookup eq l k) w → m ≡ l
 
+-- Example: `SetsKey nat_eq [(1, a)] 2 b [(1, a), (2, b)]`; `¬ (SetsKey nat_eq [(1, a)] 1 b [(1, a), (1, b)])`.
+-- The same change, as an entry says it of each value: lengths and keys by cases, since a search tries each number as `v`.
+pub record SetsKey {K V : Type 0} (eq : K → K → Bool) (l : List (K × V)) (k : K) (v : V) (m : List (K × V)) : Type 0 where
+  pub entries : m ≡ put eq l k v
+  -- What lookups find: the value for the key, and for each other key what they found. Distinct keys stay distinct.
+  pub updates : UpdatesBy eq (eq k) l m (Some v)
+  -- At which indices the keys are, and which there are, by whether `k` is one of them.
+  pub index : index_of eq m k ≡ Some (index_or_length eq l k)
+  pub indices : (test : K → Bool) (i : ℕ) → index_by test l ≡ Some i → index_by test m ≡ Some i
+  pub kept : IsSome (lookup eq l k) → keys_of m ≡ keys_of l
+  pub appended : lookup eq l k ≡ None → m ≡ l ++ (k, v) ∷ []
+  pub last : lookup eq l k ≡ None → index_of eq m k ≡ Some (length l)
+  pub pair : lookup eq l k ≡ None → slice_get m (length l) ≡ Some (k, v)
+  pub stay : IsSome (lookup eq l k) → (test : K → Bool) → index_by test m ≡ index_by test l
+  pub same : (w : V) → IsSome (lookup eq l k) → v ≡ unwrap_or (lookup eq l k) w → m ≡ l
+
 -- Example: `PutsKey eq [(1x, a)] 1y b [(1y, b)]`; `¬ (PutsKey eq [(1x, a)] 1y b [(1x, a), (1y, b)])`.
 -- The list `m` is the list `l` with `(k, v)` in place of the pair of an equal key, or at the end if there is none.
 pub record PutsKey {K V : Type 0} (eq : K → K → Bool) (l : List (K × V)) (k : K) (v : V) (m : List (K × V)) : Type 0 where

@@ -1,6 +1,6 @@
 -- What a reversal, a swap and a move of pairs leave of a list of pairs. The first field is the whole list, and the others
 -- follow from it. `eq` is the `==` of keys, and a test is what a query does with a key.
-use Rattle.std.specs.{Prelude.{◌≡◌, ◌-◌, ◌<◌, ℕ, Bool, List, Some, false, length, nat_eq, reverse, swap}, Cmp.IsEquivalence}
+use Rattle.std.specs.{Prelude.{◌≡◌, ◌-◌, ◌<◌, ℕ, Bool, List, Some, false, length, nat_eq, reverse, slice_get, swap}, Cmp.IsEquivalence}
 use Rattle.std.specs.Map.{IsKeyTest}
 use Rattle.vecmap_base.specs.{Indices.MovesIndex, Items.moved, Lookups.IsReordered, Pairs.{HasDistinctKeys, index_by}}
 
@@ -30,4 +30,5 @@ module _ {K V : Type 0} where
     -- What lookups find, and at which indices pairs and keys are.
     pub reordered : IsReordered l m
     pub moves : MovesIndex from to l m
-    pub elsewhere : (i : ℕ) → i < from → i < to → MovesIndex i i l m
+    pub elsewhere : (i : ℕ) → i < from → i < to → slice_get m i ≡ slice_get l i
+    pub indices : (test : K → Bool) (i : ℕ) → index_by test l ≡ Some i → i < from → i < to → index_by test m ≡ Some i

@@ -4,7 +4,7 @@
 //! what the map is once the returned reference has ended.
 ghost use Rattle.std.specs.Prelude.{◌≡◌, ◌<◌, ◌^◌, ◌⊎◌, Err, IfErr, IfOk, IfSome, List, None, Ok, OnErr, Some, length, unwrap_or};
 ghost use Rattle.std.specs.{Borrow.{Bor, MutBor, sem}, Fn.FnOnceReturnsAt, Map.Calls.ModifiesValue, Option.{UnwrapsOrElse, option_map_or}};
-ghost use Rattle.vecmap_base.specs.{Indices.ShiftsIndices, Insertions.AddsKey, Lookups.UpdatesBy, Pairs.{HasDistinctKeys, index_of, lookup, swap_without_by, without_by}, Removals.RemovesBy};
+ghost use Rattle.vecmap_base.specs.{Indices.ShiftsIndices, Insertions.SetsKey, Lookups.UpdatesBy, Pairs.{HasDistinctKeys, index_of, lookup, swap_without_by, without_by}, Removals.RemovesBy};
 ghost use Rattle.vecmap_map.specs.Contents.{IsFull};
 
 mod occupied;
@@ -62,7 +62,7 @@ impl<K, V> VecMap<K, V> {
         ensures value { entry_value result ≡ lookup K.eq self.old.entries key }
 
         // What follows for lookups, lengths and indices.
-        ensures insertion { (v : V) → AddsKey K.eq self.old.entries key v
+        ensures insertion { (v : V) → SetsKey K.eq self.old.entries key v
             (entries_with result v) }
         ensures without { HasDistinctKeys K.eq self.old.entries
             → UpdatesBy K.eq (K.eq key) self.old.entries (entries_without result) None }
@@ -70,8 +70,8 @@ impl<K, V> VecMap<K, V> {
             → UpdatesBy K.eq (K.eq key) self.old.entries (entries_swap_without result) None }
         ensures removal { (m : List (K × V)) → m ≡ entries_without result
             → RemovesBy K.eq without_by (K.eq key) self.old.entries m }
-        ensures indices { (m : List (K × V)) → m ≡ entries_without result
-            → IfSome (index_of K.eq self.old.entries key) (λ i. ShiftsIndices i self.old.entries m) }
+        ensures indices { IfSome (index_of K.eq self.old.entries key)
+            (λ i. ShiftsIndices i self.old.entries (entries_without result)) }
         ensures swap_removal { (m : List (K × V)) → m ≡ entries_swap_without result
             → RemovesBy K.eq swap_without_by (K.eq key) self.old.entries m }
     {

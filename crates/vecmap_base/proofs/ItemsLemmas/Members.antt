@@ -6,7 +6,7 @@ use Rattle.std.proofs.Common.{◌≡◌, ◌∙◌, ◌||◌, ◌++◌, Bool, tr
 use Rattle.std.proofs.{lemmas.List.Sorted.list_any-IsPermutation, lemmas.Map.Keys.IsDistinct-head}
 use Rattle.vecmap_base.specs.{Items.{add, adds}, Lookups.UpdatesMember}
 use Rattle.vecmap_base.proofs.{DistinctLemmas.{Absent.none_equal, Order.distinct_rearranged}, PairsLemmas.Lookups.compares_with}
-use Rattle.vecmap_base.proofs.{IndexLemmas.list_any_position, ItemsLemmas.Additions.{add_absent, add_present}, TakenLemmas.TakesFirst}
+use Rattle.vecmap_base.proofs.{IndexLemmas.list_any_position, ItemsLemmas.Additions.add_absent, TakenLemmas.TakesFirst}
 
 module _ {T : Type 0} (eq : T → T → Bool) (o : IsEquivalence eq) where
   module _ (test : T → Bool) (respects : IsKeyTest eq test) where

@@ -84,6 +84,16 @@ module _ {K V : Type 0} (test : K → Bool) where
   pair_present_at (q ∷ qs) zero p e t = grind (arith, none-some, same_Some)
   pair_present_at (q ∷ qs) (suc i) p e t = grind (arith, none-some, same_Some, (pair_present_at qs i p e t))
 
+  -- A match before the index `n` keeps its index, if all pairs before `n` do.
+  pub stays_in_front : (l m : List (K × V)) (n i : ℕ) → ((j : ℕ) → j < n → slice_get m j ≡ slice_get l j) → index_by test l ≡ Some i → i < n → index_by test m ≡ Some i
+  stays_in_front [] m n i same e h = absurd (none-some i e)
+  stays_in_front (p ∷ ps) m zero i same e h = absurd (omega (arith, h))
+  stays_in_front (p ∷ ps) [] (suc n) i same e h = absurd (none-some p (same 0 (omega arith)))
+  stays_in_front (p ∷ ps) (q ∷ qs) (suc n) i same e h =
+      let head : q ≡ p = same_Some q p (same 0 (omega arith)) in
+      ap (λ r. if test r.0 then Some 0 else option_map suc (index_by test qs)) head
+      ∙ stays (test p.0) (index_by test ps) (index_by test qs) i (λ j at next. stays_in_front ps qs n j (λ d below. same (suc d) (omega (arith, below))) at (omega (arith, next, h))) e
+
 module _ {K V : Type 0} where
   -- A pair at an index, in the word of contracts.
   pub found_at : (l : List (K × V)) (i : ℕ) (k : K) (v : V) → slice_get l i ≡ Some (k, v) → IsFoundAt i l k v

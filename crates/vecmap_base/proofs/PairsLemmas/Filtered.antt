@@ -1,6 +1,6 @@
 -- What lookups find in the pairs that a closure has kept.
 use Rattle.std.specs.{List.AllByRecursion, List.IsDistinct, Map.IsKeyTest, Map.keys_of, Option.option_and_then}
-use Rattle.std.proofs.Common.{arith, ◌≡◌, ◌∙◌, Bool, true, false, List, [], ◌∷◌, None, Option, Some, ap, cond, if◌then◌else◌, inl, inr, subst, sym}
+use Rattle.std.proofs.Common.{arith, ◌≡◌, ◌∙◌, Bool, true, false, List, [], ◌∷◌, None, Option, Some, ap, cond, if◌then◌else◌, subst, sym}
 use Rattle.std.proofs.{lemmas.Bool.cases_Bool, lemmas.Map.Keys.{IsDistinct-head, IsDistinct-tail}, lemmas.Option.{none-some, same_Some}}
 use Rattle.vecmap_base.specs.{Kept.FiltersValues, Kept.KeepsKeys, Kept.Kept, Kept.ReturnsAtKey, Kept.ReturnsAtValue, Pairs.HasDistinctKeys, Pairs.lookup_by}
 

@@ -1,11 +1,11 @@
 -- A list of pairs in another order, in the words of contracts.
-use Rattle.std.proofs.{Common.{rules, subst, sym}, lemmas.Option.slice_get_within}
+use Rattle.std.proofs.{Common.{arith, rules, subst, sym}, lemmas.Option.slice_get_within}
 use Rattle.std.proofs.lemmas.List.Sorted.{IsPermutation-reverse, IsPermutation-swap, length_permutation}
-use Rattle.std.specs.{Prelude.{◌≡◌, ◌-◌, ◌<◌, ℕ, Bool, List, Some, length, reverse, swap}, Cmp.IsEquivalence}
+use Rattle.std.specs.{Prelude.{◌≡◌, ◌-◌, ◌<◌, ℕ, Bool, List, Some, length, reverse, suc, swap}, Cmp.IsEquivalence}
 use Rattle.std.specs.{List.Sorted.IsPermutation, Map.IsKeyTest}
 use Rattle.vecmap_base.specs.{Items.moved, Lookups.IsReordered, Reorders.{MovesPair, ReversesPairs, SwapsPairs}}
 use Rattle.vecmap_base.{specs.Pairs.{HasDistinctKeys, index_by}, proofs.EqualityLemmas.Maps.equal_rearranged}
-use Rattle.vecmap_base.proofs.PairsLemmas.AtIndices.{match_at, moves_index}
+use Rattle.vecmap_base.proofs.PairsLemmas.AtIndices.{match_at, moves_index, stays_in_front}
 use Rattle.vecmap_base.proofs.MoveLemmas.{at_reversed, moved_item, moved_other, swapped_item, swapped_item_back, swapped_other}
 use Rattle.vecmap_base.proofs.PairsLemmas.{Parts.matches_rearranged, Updates.lookups_rearranged}
 
@@ -41,5 +41,6 @@ module _ {K V : Type 0} (l m : List (K × V)) where
     entries = e;
     reordered = reordered permuted;
     moves = moves_index l m i j permuted (moved_item l m i j e h k);
-    elsewhere = λ n f g. moves_index l m n n permuted (moved_other l m i j n e h f g);
+    elsewhere = λ n f g. moved_other l m i j n e h f g;
+    indices = λ test n at f g. stays_in_front test l m (suc n) n (λ d below. moved_other l m i j d e h (omega (arith, below, f)) (omega (arith, below, g))) at (omega arith);
   }

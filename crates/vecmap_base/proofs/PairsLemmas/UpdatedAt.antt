@@ -1,6 +1,6 @@
 -- What lookups find after a write of the value at an index.
-use Rattle.std.specs.{Cmp.IsEquivalence, Map.IsKeyTest, Map.set_value, Option.option_map_or}
-use Rattle.std.proofs.Common.{◌≡◌, ◌∙◌, ℕ, Bool, List, [], ◌∷◌, Some, IsSome, ap, cond, inl, inr, is_some, sym, true≢false}
+use Rattle.std.specs.{Cmp.IsEquivalence, Map.IsKeyTest, Option.option_map_or}
+use Rattle.std.proofs.Common.{◌≡◌, ◌∙◌, ℕ, Bool, List, Some, IsSome, ap, is_some, sym}
 use Rattle.std.proofs.lemmas.Map.{keys-set_value}
 use Rattle.vecmap_base.specs.{Lookups.{UpdatesAt, WritesBy}, Pairs.index_by, Pairs.lookup_by, Pairs.with_value}
 use Rattle.vecmap_base.proofs.{PairsLemmas.AtIndices.keeps_indices, PairsLemmas.ByIndex.{is_some_lookup_by, set_value_by_index}}

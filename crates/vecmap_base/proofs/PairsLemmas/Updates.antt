@@ -1,6 +1,6 @@
 -- What lookups find after a removal and after a write of a value, in the words of contracts.
 use Rattle.std.specs.{Cmp.IsEquivalence, List.AllByRecursion, List.IsDistinct, List.Sorted.IsPermutation, Map.AreApart, Map.IsKeyTest, Map.KeepsOthers, Map.keys_of, Map.set_value, Option.option_and_then, Option.option_map_or}
-use Rattle.std.proofs.Common.{arith, ◌≡◌, ◌∙◌, ◌-◌, ◌++◌, ℕ, Bool, true, false, List, [], ◌∷◌, None, Option, Some, IsSome, ap, cond, inl, inr, insert, is_some, length, min, refl, remove, slice_get, subst, sym, true≢false}
+use Rattle.std.proofs.Common.{arith, ◌≡◌, ◌∙◌, ◌-◌, ◌++◌, ℕ, Bool, true, false, List, [], ◌∷◌, None, Option, Some, IsSome, ap, cond, inl, inr, insert, is_some, length, min, refl, remove, slice_get, subst, sym}
 use Rattle.std.proofs.{lemmas.Bool.cases_Bool, lemmas.List.map-set, lemmas.List.Quantifiers.position-Some}
 use Rattle.std.proofs.{lemmas.List.Sorted.IsPermutation-insert, lemmas.Map.Entries.none_past_head, lemmas.Option.get_or_from_slice_get}
 use Rattle.std.proofs.lemmas.Map.{NonePasses, lookup-none, none_passes_from_lookup}

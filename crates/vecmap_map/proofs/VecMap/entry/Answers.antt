@@ -1,10 +1,10 @@
 use Rattle.std.proofs.Common.{refl, ◌∙◌}
 use Rattle.vecmap_map.proofs.EntryLemmas.Puts.{entries_swap_without_by, entries_with_put, entries_without_by, entry_value_is}
-use Rattle.vecmap_base.proofs.{InsertionLemmas.adds_key, PairsLemmas.AtIndices.shifts_without, RemovalLemmas.{removes_by, swap_removes_by}}
+use Rattle.vecmap_base.proofs.{InsertionLemmas.sets_key, PairsLemmas.AtIndices.shifts_without, RemovalLemmas.{removes_by, swap_removes_by}}
 use Rattle.vecmap_map.proofs.VecMap.entry.Goals as goal
 
 pub returns-clause-insertion : goal.returns-clause-insertion
-returns-clause-insertion g c = λ v. adds_key g.K.PartialEq.eq g.met.K.Eq.laws _ _ _ _ (entries_with_put g.K.PartialEq.eq _ _ _ v c.over.ensures.unchanged c.over.ensures.key c.over.ensures.index)
+returns-clause-insertion g c = λ v. sets_key g.K.PartialEq.eq g.met.K.Eq.laws _ _ _ _ (entries_with_put g.K.PartialEq.eq _ _ _ v c.over.ensures.unchanged c.over.ensures.key c.over.ensures.index)
 
 pub returns-clause-value : goal.returns-clause-value
 returns-clause-value g c = entry_value_is g.K.PartialEq.eq _ _ _ c.over.ensures.unchanged c.over.ensures.index
@@ -16,7 +16,7 @@ returns-clause-removal g c m is =
     removes_by (eq c.args.key) _ eq o (o.congr c.args.key) m (is ∙ entries_without_by eq _ _ _ c.over.ensures.unchanged c.over.ensures.index)
 
 pub returns-clause-indices : goal.returns-clause-indices
-returns-clause-indices g c m is = shifts_without (g.K.PartialEq.eq c.args.key) _ m (is ∙ entries_without_by g.K.PartialEq.eq _ _ _ c.over.ensures.unchanged c.over.ensures.index)
+returns-clause-indices g c = shifts_without (g.K.PartialEq.eq c.args.key) _ _ (entries_without_by g.K.PartialEq.eq _ _ _ c.over.ensures.unchanged c.over.ensures.index)
 
 pub returns-clause-swap_removal : goal.returns-clause-swap_removal
 returns-clause-swap_removal g c m is =
