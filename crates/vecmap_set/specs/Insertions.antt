@@ -7,7 +7,7 @@ use Rattle.vecmap_base.specs.{Items.{add, item_index, put_item, stored_item}, Lo
 use Rattle.vecmap_set.specs.{Contents.{Appends, Contents}, Indices.{FindsAt, KeepsItemIndices, KeepsMatchIndices}, Tests.AgreesOnEquals}
 
 module _ {T : Type 0} where
-  -- Example: `AppendsItem [1] 2 [1, 2]`; `¬ (AppendsItem [1] 2 [1])`.
+  -- Example: `AppendsItem [a] b [a, b]`; `¬ (AppendsItem [a] b [a])`.
   -- The list `r` is the list `s` with the element `x` appended.
   pub record AppendsItem (s : List T) (x : T) (r : List T) : Type 0 where
     pub elements : r ≡ s ++ x ∷ []
