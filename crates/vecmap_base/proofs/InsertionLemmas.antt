@@ -46,7 +46,7 @@ module _ {K V : Type 0} (eq : K → K → Bool) where
 
     -- After an insertion.
     pub adds_key : (l m : List (K × V)) (k : K) (v : V) → m ≡ put eq l k v → AddsKey eq l k v m
-    adds_key l m k v e = grind (arith, (updates_of_put eq o l m k v e), index_put, indices_put, keys_put, length_put_by_lookup, put_absent, index_by_none, same_indices, put_found)
+    adds_key l m k v e = grind (arith, (updates_of_put eq o l m k v e), index_put, indices_put, keys_put, length_put_by_lookup, put_absent, index_by_none, slice_get_last, same_indices, put_found)
 
     pub sets_key : (l m : List (K × V)) (k : K) (v : V) → m ≡ put eq l k v → SetsKey eq l k v m
     sets_key l m k v e =
@@ -58,8 +58,8 @@ module _ {K V : Type 0} (eq : K → K → Bool) where
           indices = a.indices;
           kept = λ some. a.keys ∙ ap (λ b. if b then keys_of l else keys_of l ++ k ∷ []) some;
           appended = a.appended;
-          last = λ absent. a.index ∙ ap (λ found. Some (unwrap_or found (length l))) (index_by_none (eq k) l absent);
-          pair = λ absent. ap (λ n. slice_get n (length l)) (a.appended absent) ∙ slice_get_last l (k, v);
+          last = a.last;
+          pair = a.pair;
           stay = a.stay;
           same = a.same;
         }

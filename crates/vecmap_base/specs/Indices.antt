@@ -1,6 +1,6 @@
 -- Which keys a list of pairs has after a change, and at which indices. `eq` is the `==` of keys, and a test is what a
 -- query does with a key.
-use Rattle.std.specs.{Prelude.{◌≡◌, ◌-◌, ◌<◌, ℕ, Bool, List, Option, Some, is_some, length, remove, slice_get, true}, Cmp.IsEquivalence, Option.option_and_then}
+use Rattle.std.specs.{Prelude.{◌≡◌, ◌-◌, ◌<◌, ℕ, Bool, List, Some, is_some, length, remove, slice_get, true}, Cmp.IsEquivalence}
 use Rattle.std.specs.Map.{IsKeyTest, keys_of, values_of}
 use Rattle.vecmap_base.specs.Pairs.{HasDistinctKeys, index_by, index_of, lookup, lookup_by, value_at}
 
@@ -9,12 +9,6 @@ module _ {K V : Type 0} where
   -- At the index `i` of the list `l` is the pair that a query finds.
   abbrev pub HasMatchAt : (K → Bool) → List (K × V) → ℕ → Type 0
   HasMatchAt test l i = (k : K) × (v : V) × (slice_get l i ≡ Some (k, v)) × (test k ≡ true) × (lookup_by test l ≡ Some v)
-
-  -- Example: of the query 2 in `[(1,a), (2,b)]`: `Some 1`, since it finds b there.
-  -- The index `r` is that of the match of a query in the list `l`, if there is one.
-  pub record FindsIndex (test : K → Bool) (l : List (K × V)) (r : Option ℕ) : Type 0 where
-    pub found : is_some r ≡ is_some (lookup_by test l)
-    pub stored : option_and_then (value_at l) r ≡ lookup_by test l
 
   -- Example: `IsFoundAt 1 [(1, a), (2, b)] 2 b`; `¬ (IsFoundAt 1 [(1, a), (2, b)] 3 b)` by `present (nat_eq 3) refl`.
   -- The pair `(k, v)` at the index `i` of the list `l` has a key that is present, and is found if all keys are distinct.

@@ -18,6 +18,8 @@ pub record AddsKey {K V : Type 0} (eq : K → K → Bool) (l : List (K × V)) (k
   pub len : length m ≡ (if is_some (lookup eq l k) then length l else length l + 1)
   -- What happens to a new key, to a present one, and to one whose value stays.
   pub appended : lookup eq l k ≡ None → m ≡ l ++ (k, v) ∷ []
+  pub last : lookup eq l k ≡ None → index_of eq m k ≡ Some (length l)
+  pub pair : lookup eq l k ≡ None → slice_get m (length l) ≡ Some (k, v)
   pub stay : IsSome (lookup eq l k) → (test : K → Bool) → index_by test m ≡ index_by test l
   pub same : (w : V) → IsSome (lookup eq l k) → v ≡ unwrap_or (lookup eq l k) w → m ≡ l
 

@@ -1,10 +1,10 @@
 -- What lookups find after a change of a list of pairs. If a field of a record is the whole list, the others follow from it.
 -- `eq` is the `==` of keys.
-use Rattle.std.specs.Prelude.{◌≡◌, [], ◌++◌, ◌+◌, ◌<◌, ◌≤◌, ℕ, Bool, IsSome, IsTrue, List, None, Option, Some, cond, if◌then◌else◌, is_some, length, min, nat_lt, slice_set, take, unwrap_or}
-use Rattle.std.specs.{List.list_any, List.Sorted.IsPermutation, Option.option_or, Cmp.IsEquivalence}
+use Rattle.std.specs.Prelude.{◌≡◌, [], ◌++◌, ◌+◌, ◌<◌, ◌≤◌, ℕ, Bool, IfSome, IsSome, IsTrue, List, None, Option, Some, cond, if◌then◌else◌, is_some, length, min, nat_lt, slice_set, take, unwrap_or}
+use Rattle.std.specs.{List.list_any, List.Sorted.IsPermutation, Option.{option_and_then, option_or}, Cmp.IsEquivalence}
 use Rattle.std.specs.Set.{is_member, KeepsOthers as KeepsOtherItems}
 use Rattle.std.specs.Map.{IsKeyTest, KeepsOthers, keys_of, set_value, values_of}
-use Rattle.vecmap_base.specs.{Equality.has_same_counts, Indices.{HasMatchAt, KeepsIndices}, Pairs.{HasDistinctKeys, index_by, lookup, lookup_by, puts, with_value}}
+use Rattle.vecmap_base.specs.{Equality.has_same_counts, Indices.KeepsIndices, Pairs.{HasDistinctKeys, index_by, lookup, lookup_by, puts, value_at, with_value}}
 
 module _ {K V : Type 0} (eq : K → K → Bool) where
   -- Example: `UpdatesBy nat_eq (nat_eq 1) [(1, a), (2, b)] [(2, b)] None`.
@@ -17,11 +17,12 @@ module _ {K V : Type 0} (eq : K → K → Bool) where
     -- Distinct keys stay distinct.
     pub distinct : HasDistinctKeys eq l → HasDistinctKeys eq m
 
-  -- Example: the index 1 of `[(1,a), (2,b)]` and the query 2.
-  -- At the index `i` of the list `l` is the pair that a query finds, and a write of a value there is one at the query.
-  pub record FindsKeyAt (test : K → Bool) (l : List (K × V)) (i : ℕ) : Type 0 where
-    pub at : HasMatchAt test l i
-    pub written : (v : V) → UpdatesBy test l (with_value l i v) (Some v)
+  -- Example: of the query 2 in `[(1,a), (2,b)]`: `Some 1`, since it finds b there.
+  -- The index `r` is that of the match of a query in the list `l`, if there is one. A write of a value there is one at the query.
+  pub record FindsIndex (test : K → Bool) (l : List (K × V)) (r : Option ℕ) : Type 0 where
+    pub found : is_some r ≡ is_some (lookup_by test l)
+    pub stored : option_and_then (value_at l) r ≡ lookup_by test l
+    pub written : IfSome r (λ i. (v : V) → UpdatesBy test l (with_value l i v) (Some v))
 
   -- Example: `KeepsLookups nat_eq [(1, a), (2, b)] [(2, b), (1, a)]`; `¬ (KeepsLookups nat_eq [(1, a)] [])` by `lookups 1`.
   -- Each key, and each query that matches a key and its equals alone, finds in the list `m` what it finds in `l`.

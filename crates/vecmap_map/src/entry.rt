@@ -69,9 +69,8 @@ impl<K, V> VecMap<K, V> {
         ensures swap_without { HasDistinctKeys K.eq self.old.entries
             → UpdatesBy K.eq (K.eq key) self.old.entries (entries_swap_without result) None }
         ensures removal { (m : List (K × V)) → m ≡ entries_without result
-            → RemovesBy K.eq without_by (K.eq key) self.old.entries m }
-        ensures indices { IfSome (index_of K.eq self.old.entries key)
-            (λ i. ShiftsIndices i self.old.entries (entries_without result)) }
+            → RemovesBy K.eq without_by (K.eq key) self.old.entries m
+            × IfSome (index_of K.eq self.old.entries key) (λ i. ShiftsIndices i self.old.entries m) }
         ensures swap_removal { (m : List (K × V)) → m ≡ entries_swap_without result
             → RemovesBy K.eq swap_without_by (K.eq key) self.old.entries m }
     {

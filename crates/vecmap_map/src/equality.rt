@@ -1,5 +1,5 @@
 //! Equality of maps: the order of the pairs makes no difference.
-ghost use Rattle.std.specs.Prelude.{◌≡◌, IsTrue, length};
+ghost use Rattle.std.specs.Prelude.{◌≡◌};
 ghost use Rattle.vecmap_base.specs.Equality.{has_same_counts};
 
 use crate::VecMap;
@@ -38,10 +38,9 @@ impl<K: Eq, V: PartialEq> PartialEq for VecMap<K, V> {
     ghost laws = { on_per (λ map. map.entries) (partial_map_equality_laws K.eq V.eq K.Eq.laws V.laws) };
 
     fn eq(&self, other: &VecMap<K, V>) -> bool
-        ensures value { result ≡ has_same_counts K.eq V.eq self.now.entries other.now.entries }
-
-        // What follows for lookups, lengths and indices.
-        ensures equal { IsTrue result → length self.now.entries ≡ length other.now.entries }
+        // One equation without a label: by another contract a derived `==` of a type that holds a map is not proved ("antt
+        // refuses what rattle made for the borrow checker's part in its proof").
+        ensures { result ≡ has_same_counts K.eq V.eq self.now.entries other.now.entries }
     {
         pairs_equal(&self.pairs, &other.pairs)
     }

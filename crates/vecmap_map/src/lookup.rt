@@ -1,7 +1,7 @@
 //! Lookups by query and by index.
 ghost use Rattle.std.specs.Prelude.{◌≡◌, ◌-◌, ◌<◌, ◌^◌, ◌↔◌, IfSome, IsTrue, Some, is_some, length, nat_lt, option_copied, option_map, slice_get, string_eq};
 ghost use Rattle.std.specs.{Map.Iter.deref_pair, Option.option_and_then};
-ghost use Rattle.vecmap_base.specs.{Indices.{FindsIndex, IsFoundAt}, Lookups.FindsKeyAt};
+ghost use Rattle.vecmap_base.specs.{Indices.{HasMatchAt, IsFoundAt}, Lookups.FindsIndex};
 ghost use Rattle.vecmap_base.specs.Pairs.{HasDistinctKeys, has_text, index_by, lookup_by, lookup_pair_by, value_at};
 
 use crate::VecMap;
@@ -185,8 +185,8 @@ impl<K, V> VecMap<K, V> {
         ensures countable { IfSome result (λ i. i < 2 ^ 63) }
 
         // What follows for lookups, lengths and indices.
-        ensures found { FindsIndex (Q.equivalent query) self.now.entries result }
-        ensures at { IfSome result (FindsKeyAt K.eq (Q.equivalent query) self.now.entries) }
+        ensures found { FindsIndex K.eq (Q.equivalent query) self.now.entries result }
+        ensures at { IfSome result (HasMatchAt (Q.equivalent query) self.now.entries) }
     {
         let _len = self.len(); // Bounds the index.
         find_equivalent(&self.pairs, query)
@@ -261,8 +261,8 @@ impl<V> VecMap<String, V> {
         ensures countable { IfSome result (λ i. i < 2 ^ 63) }
 
         // What follows for lookups, lengths and indices.
-        ensures found { FindsIndex (has_text text.now) self.now.entries result }
-        ensures at { IfSome result (FindsKeyAt string_eq (has_text text.now) self.now.entries) }
+        ensures found { FindsIndex string_eq (has_text text.now) self.now.entries result }
+        ensures at { IfSome result (HasMatchAt (has_text text.now) self.now.entries) }
     {
         self.get_index_of(text)
     }

@@ -36,6 +36,11 @@ module _ {K V : Type 0} (test : K → Bool) where
       by false t None a f rest = absurd (none-some i f)
       by false t (Some j) a f rest = let m = rest j a in (m.0, m.1, ap (slice_get (p ∷ ps)) (sym (same_Some (suc j) i f)) ∙ m.2, m.3, m.4)
 
+  -- The same of a search that may have found nothing.
+  pub match_if_found : (l : List (K × V)) (found : Option ℕ) → found ≡ index_by test l → IfSome found (HasMatchAt test l)
+  match_if_found l None e = tt
+  match_if_found l (Some i) e = match_at l i (sym e)
+
   -- A pair that is appended moves no key.
   pub index_stays : (l : List (K × V)) (p : K × V) (i : ℕ) → index_by test l ≡ Some i → index_by test (l ++ p ∷ []) ≡ Some i
   index_stays l p i e = index_by_is test (l ++ p ∷ []) ∙ position_front (λ q. test q.0) (p ∷ []) l i (sym (index_by_is test l) ∙ e)

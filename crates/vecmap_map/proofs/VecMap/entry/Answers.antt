@@ -13,10 +13,8 @@ pub returns-clause-removal : goal.returns-clause-removal
 returns-clause-removal g c m is =
     let eq = g.K.PartialEq.eq in
     let o = g.met.K.Eq.laws in
-    removes_by (eq c.args.key) _ eq o (o.congr c.args.key) m (is ∙ entries_without_by eq _ _ _ c.over.ensures.unchanged c.over.ensures.index)
-
-pub returns-clause-indices : goal.returns-clause-indices
-returns-clause-indices g c = shifts_without (g.K.PartialEq.eq c.args.key) _ _ (entries_without_by g.K.PartialEq.eq _ _ _ c.over.ensures.unchanged c.over.ensures.index)
+    let left = is ∙ entries_without_by eq _ _ _ c.over.ensures.unchanged c.over.ensures.index in
+    (removes_by (eq c.args.key) _ eq o (o.congr c.args.key) m left, shifts_without (eq c.args.key) _ m left)
 
 pub returns-clause-swap_removal : goal.returns-clause-swap_removal
 returns-clause-swap_removal g c m is =
@@ -25,7 +23,7 @@ returns-clause-swap_removal g c m is =
     swap_removes_by (eq c.args.key) _ eq o (o.congr c.args.key) m (is ∙ entries_swap_without_by eq _ _ _ c.over.ensures.unchanged c.over.ensures.index)
 
 pub returns-clause-without : goal.returns-clause-without
-returns-clause-without g c = (returns-clause-removal g c _ refl).updates
+returns-clause-without g c = (returns-clause-removal g c _ refl).0.updates
 
 pub returns-clause-swap_without : goal.returns-clause-swap_without
 returns-clause-swap_without g c = (returns-clause-swap_removal g c _ refl).updates

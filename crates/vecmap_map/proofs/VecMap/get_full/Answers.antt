@@ -9,7 +9,7 @@ pub returns-clause-at : goal.returns-clause-at
 returns-clause-at g c =
     let l = c.args.self.now.entries in
     let test = g.Q.Equivalent.equivalent c.args.query in
-    let found = c.in_ok-index.ensures.at.at in
+    let found = c.in_ok-index.ensures.at in
     let pair = c.index-pair.result.now in
     let here : slice_get l c.in_ok-index.index ≡ Some pair = grind (arith, pair_read test l c.in_ok-index.index pair) in
     let same = same_Some (found.0, found.1) pair (sym found.2 ∙ here) in

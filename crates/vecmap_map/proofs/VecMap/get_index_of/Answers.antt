@@ -1,5 +1,5 @@
 use Rattle.std.{proofs.Common.{◌≡◌, ◌∙◌, is_some, arith, None, Option, Some, IfSome, ap, sym}, specs.Option.option_and_then}
-use Rattle.vecmap_base.{specs.{Lookups.FindsKeyAt, Pairs.{index_by, value_at}}, proofs.PairsLemmas.AtIndices.match_at}
+use Rattle.vecmap_base.{specs.{Lookups.UpdatesBy, Pairs.{index_by, value_at, with_value}}, proofs.PairsLemmas.AtIndices.match_if_found}
 use Rattle.vecmap_base.proofs.PairsLemmas.{ByIndex.{is_some_lookup_by, lookup_by_index}, UpdatedAt.updates_at}
 use Rattle.vecmap_map.proofs.VecMap.get_index_of.Goals as goal
 
@@ -11,15 +11,13 @@ returns-clause-found g c =
     record {
       found = ap is_some at ∙ sym (is_some_lookup_by test l);
       stored = ap (option_and_then (value_at l)) at ∙ sym (lookup_by_index test l);
+      written = written c.find_equivalent.result at;
     }
+  where
+    written : (found : Option _) → found ≡ index_by (g.Q.Equivalent.equivalent c.args.query) c.args.self.now.entries
+        → IfSome found (λ i. (value : _) → UpdatesBy g.K.PartialEq.eq (g.Q.Equivalent.equivalent c.args.query) c.args.self.now.entries (with_value c.args.self.now.entries i value) (Some value))
+    written None e = tt
+    written (Some i) e = λ v. (updates_at c.args.self.now.entries i v).updates g.K.PartialEq.eq (g.Q.Equivalent.equivalent c.args.query) g.met.K.Eq.laws (g.met.Q.Equivalent.respects_eq c.args.query) (sym e)
 
 pub returns-clause-at : goal.returns-clause-at
-returns-clause-at g c = by c.find_equivalent.result (grind arith)
-  where
-    by : (found : Option _) → found ≡ index_by (g.Q.Equivalent.equivalent c.args.query) c.args.self.now.entries
-        → IfSome found (FindsKeyAt g.K.PartialEq.eq (g.Q.Equivalent.equivalent c.args.query) c.args.self.now.entries)
-    by None e = tt
-    by (Some i) e = record {
-      at = match_at (g.Q.Equivalent.equivalent c.args.query) c.args.self.now.entries i (sym e);
-      written = λ v. (updates_at c.args.self.now.entries i v).updates g.K.PartialEq.eq (g.Q.Equivalent.equivalent c.args.query) g.met.K.Eq.laws (g.met.Q.Equivalent.respects_eq c.args.query) (sym e);
-    }
+returns-clause-at g c = match_if_found (g.Q.Equivalent.equivalent c.args.query) c.args.self.now.entries c.find_equivalent.result (grind arith)

@@ -9,5 +9,5 @@ pub returns : goal.returns
 returns c =
     let a = c.self.inside.sections.entries in
     let b = c.other.inside.sections.entries in
-    let tells : Tells (sections_of a) (sections_of b) c.eq.result = subst (Tells (sections_of a) (sections_of b)) (sym c.eq.ensures.value) (same_documents a b c.self.invariant c.other.invariant) in
+    let tells : Tells (sections_of a) (sections_of b) c.eq.result = subst (Tells (sections_of a) (sections_of b)) (sym c.eq.ensures) (same_documents a b c.self.invariant c.other.invariant) in
     subst (λ d. Tells d c.args.other.now c.eq.result) c.self.view_is (subst (λ e. Tells (sections_of a) e c.eq.result) c.other.view_is tells)
