@@ -41,6 +41,7 @@ pub record MakesClones {K V : Type 0} (eq : K → K → Bool) (key_clone : K →
   -- If each clone is the same as its original, this is what insertions of `pairs` make.
   pub same : ClonesAreSame key_clone → ClonesAreSame value_clone → MakesPairs eq pairs m.entries
   pub distinct : HasDistinctKeys eq m.entries
+  pub len : length m.entries ≤ length pairs
   pub capacity : length pairs ≤ m.capacity
 
 module _ {K V : Type 0} (eq : K → K → Bool) where
