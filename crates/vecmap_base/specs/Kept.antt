@@ -54,6 +54,8 @@ module _ {F K V : Type 0} (R : F → K × V → Bool → K × V → F → Type 0
     pub lookups : (h : V → Option V) → FiltersValues f h → (test : K → Bool) (eq : K → K → Bool) → HasDistinctKeys eq l → IsKeyTest eq test → lookup_by test m ≡ option_and_then h (lookup_by test l)
     -- What a query finds if the closure returns the same at each key that it matches: what it found, or nothing.
     pub selected : (test : K → Bool) (kept : Bool) → ReturnsAtKey f test kept → lookup_by test m ≡ (if kept then lookup_by test l else None)
+    pub stays : (test : K → Bool) → ReturnsAtKey f test true → lookup_by test m ≡ lookup_by test l
+    pub gone : (test : K → Bool) → ReturnsAtKey f test false → lookup_by test m ≡ None
     pub distinct : (eq : K → K → Bool) → HasDistinctKeys eq l → HasDistinctKeys eq m
     -- How many pairs are left, and which if the closure only tests them.
     pub left : Retains f l m

@@ -28,6 +28,8 @@ retains_pairs R same f l m kept = record {
   retained = kept;
   lookups = λ h told test eq d respects. lookup_by_filtered R same test eq respects h f kept.0 l m d told kept.1;
   selected = λ test stays told. lookup_by_returned R same test stays f kept.0 l m told kept.1;
+  stays = λ test told. lookup_by_returned R same test true f kept.0 l m told kept.1;
+  gone = λ test told. lookup_by_returned R same test false f kept.0 l m told kept.1;
   distinct = λ eq. distinct_keys_kept R same eq f kept.0 l m kept.1;
   left = retains R f l m kept;
 }
