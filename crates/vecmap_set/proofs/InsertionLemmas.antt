@@ -3,7 +3,7 @@ use Rattle.std.specs.{Cmp.IsEquivalence, List.{IsDistinct, list_any}, Map.IsKeyT
 use Rattle.std.proofs.Common.{◌≡◌, ◌∙◌, ◌++◌, ◌+◌, ℕ, Bool, true, false, List, [], ◌∷◌, None, Option, Some, IsTrue, ap, arith, if◌then◌else◌, inl, inr, is_some, length, length-append, not, position, refl, slice_set, subst, sym, true≢false}
 use Rattle.std.proofs.lemmas.{Bool.cases_Bool, List.Folds.list_any-append, List.length-set}
 use Rattle.vecmap_base.specs.{Items.{add, item_index, put_item}, Lookups.UpdatesMember}
-use Rattle.vecmap_base.proofs.{IndexLemmas.{list_any_position, list_any_stored, position_appended, position_none, stored_last}, ItemsLemmas.Changes.members_of_put}
+use Rattle.vecmap_base.proofs.{IndexLemmas.{list_any_position, position_appended, position_none, stored_last}, ItemsLemmas.Changes.members_of_put}
 use Rattle.vecmap_base.proofs.{ItemsLemmas.Additions.add_absent, ItemsLemmas.Members.{members_appended_by, members_matched}}
 use Rattle.vecmap_set.specs.Insertions.{AddsItem, AddsItemBy, AppendsItem, PutsItem}
 use Rattle.vecmap_set.proofs.{IndexLemmas.{indices_appended, indices_of_put, indices_stay}, QueryLemmas.any_of_add}
@@ -71,9 +71,9 @@ module _ {T : Type 0} (eq : T → T → Bool) (o : IsEquivalence eq) (s r : List
     elements = e;
     distinct = d;
     updates = members_of_put eq o s r x e;
-    appended = λ new. e ∙ by (position (eq x) s) (sym (list_any_position (eq x) s) ∙ list_any_stored (eq x) s ∙ ap is_some new);
-    index = last (λ new. e ∙ by (position (eq x) s) (sym (list_any_position (eq x) s) ∙ new));
-    len = ap length e ∙ len (position (eq x) s) ∙ ap (λ b. length s + (if b then 0 else 1)) (sym (list_any_position (eq x) s) ∙ list_any_stored (eq x) s);
+    appended = appended;
+    index = last appended;
+    len = ap length e ∙ len (position (eq x) s) ∙ ap (λ b. length s + (if b then 0 else 1)) (sym (list_any_position (eq x) s));
     indices = indices_of_put eq o s r x e;
   }
     where
@@ -83,6 +83,9 @@ module _ {T : Type 0} (eq : T → T → Bool) (o : IsEquivalence eq) (s r : List
       by : (found : Option ℕ) → is_some found ≡ false → put_at found ≡ s ++ x ∷ []
       by None f = refl
       by (Some i) f = absurd (true≢false f)
+
+      appended : is_member eq s x ≡ false → r ≡ s ++ x ∷ []
+      appended new = e ∙ by (position (eq x) s) (sym (list_any_position (eq x) s) ∙ new)
 
       len : (found : Option ℕ) → length (put_at found) ≡ length s + (if is_some found then 0 else 1)
       len None = length-append s (x ∷ [])

@@ -3,7 +3,7 @@
 -- `eq` calls equal, and are not the same.
 use Rattle.std.specs.Prelude.{◌≡◌, ◌++◌, ◌∷◌, ◌+◌, ◌||◌, ℕ, Bool, IsTrue, List, [], None, Some, false, if◌then◌else◌, is_some, length, not, position, slice_get, true}
 use Rattle.std.specs.{List.{IsDistinct, list_any}, Set.is_member}
-use Rattle.vecmap_base.specs.{Items.{add, item_index, put_item, stored_item}, Lookups.UpdatesMember}
+use Rattle.vecmap_base.specs.{Items.{add, item_index, put_item}, Lookups.UpdatesMember}
 use Rattle.vecmap_set.specs.{Contents.{Appends, Contents}, Indices.{FindsAt, KeepsItemIndices, KeepsMatchIndices}, Tests.AgreesOnEquals}
 
 module _ {T : Type 0} where
@@ -46,9 +46,9 @@ module _ {T : Type 0} (eq : T → T → Bool) where
     -- What queries find.
     pub updates : UpdatesMember eq (eq x) s r true
     -- Where a new element is, how many there are, and where the old ones are.
-    pub appended : stored_item eq s x ≡ None → r ≡ s ++ x ∷ []
+    pub appended : is_member eq s x ≡ false → r ≡ s ++ x ∷ []
     pub index : is_member eq s x ≡ false → item_index eq r x ≡ Some (length s)
-    pub len : length r ≡ length s + (if is_some (stored_item eq s x) then 0 else 1)
+    pub len : length r ≡ length s + (if is_member eq s x then 0 else 1)
     pub indices : KeepsItemIndices eq s r
 
   -- Example: `AddsItemBy nat_eq (nat_eq 2) [1] [1, 2]`; `¬ (AddsItemBy nat_eq (nat_eq 2) [1] [1])`.

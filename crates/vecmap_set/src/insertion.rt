@@ -1,8 +1,8 @@
 //! Insertion of one element.
 ghost use Rattle.std.specs.Prelude.{◌≡◌, ◌^◌, ◌<◌, Err, IfErr, IfOk, IfSome, IsTrue, None, Ok, OnErr, OnOk, Some, false, length, position, unwrap_or};
 ghost use Rattle.std.specs.Set.{is_member};
-ghost use Rattle.vecmap_base.specs.Items.{item_index, stored_item};
-ghost use Rattle.vecmap_set.specs.{Contents.{FailsToInsert, IsFull, KeepsRoom, KeepsRoomAt, Refuses, Reserves}, Indices.FindsAt, Insertions.{AddsItem, AppendsItem, FindsOrAppends, PutsItem, TellsIfAdded}};
+ghost use Rattle.vecmap_base.specs.Items.{item_index};
+ghost use Rattle.vecmap_set.specs.{Contents.{FailsToInsert, IsFull, KeepsRoom, KeepsRoomAt, Refuses, Reserves}, Indices.FindsAt, Insertions.{AddsItem, AppendsItem, FindsOrAppends, PutsItem, TellsIfAdded}, Removals.FindsItem};
 
 use crate::VecSet;
 use std::alloc::AllocError;
@@ -94,7 +94,7 @@ impl<T: Eq> VecSet<T> {
     #[tactic(auto, using(vecmap_base::proofs::IndexLemmas::list_any_position, std::proofs::lemmas::Option::gets))]
     pub fn replace(&mut self, item: T) -> Result<Option<T>, Refused<T>>
         ensures insertion { OnOk result (PutsItem T.eq self.old.elements item self.new.elements) }
-        ensures returned { IfOk result (λ old. old ≡ stored_item T.eq self.old.elements item) }
+        ensures returned { IfOk result (λ old. FindsItem (T.eq item) self.old.elements old) }
         ensures capacity { KeepsRoom T.eq self.old item self.new }
         ensures given { IfErr result (λ refused. refused.given ≡ item) }
         ensures err { OnErr result (Refuses T.eq self.old item self.new) }

@@ -2,7 +2,7 @@
 -- distinct.
 use Rattle.std.proofs.{Common.{◌≡◌, ◌∙◌, rules, sym, ap, Some}, lemmas.{List.Quantifiers.position-Some, Option.gets}}
 use Rattle.vecmap_base.{specs.Items.item_index, proofs.{DistinctLemmas.Additions.distinct_replace, IndexLemmas.list_any_position}}
-use Rattle.vecmap_set.proofs.InsertionLemmas.{puts_item}
+use Rattle.vecmap_set.proofs.{InsertionLemmas.puts_item, RemovalLemmas.finds_item}
 use Rattle.vecmap_set.proofs.VecSet.replace.Goals as goal
 
 pub invariant_of-self : goal.invariant_of-self
@@ -16,3 +16,9 @@ returns-in-Some-clause-insertion g c = puts_item g.T.PartialEq.eq g.met.T.Eq.law
 
 pub returns-clause-insertion : goal.returns-clause-insertion
 returns-clause-insertion g c = puts_item g.T.PartialEq.eq g.met.T.Eq.laws c.args.self.now.elements _ (search rules) c.args.item (search (rules, list_any_position, gets))
+
+pub returns-in-Some-clause-returned : goal.returns-in-Some-clause-returned
+returns-in-Some-clause-returned g c = finds_item (g.T.PartialEq.eq c.args.item) c.args.self.now.elements _ (search (rules, gets))
+
+pub returns-clause-returned : goal.returns-clause-returned
+returns-clause-returned g c = finds_item (g.T.PartialEq.eq c.args.item) c.args.self.now.elements _ (search (rules, gets))
