@@ -29,9 +29,10 @@ PUBLIC = re.compile(FORM % r"abbrev pub |(?:unfoldable )?pub (?:record |data |ru
 ANY = re.compile(FORM % r"(?:(?:abbrev|unfoldable|pub|record|data) )*(?!(?:abbrev|module|pub|where) )", re.MULTILINE)
 NAME = re.compile(r"[A-Za-z_][\w']*")
 # An import or an export: the words before it, and its paths.
-USE = re.compile(r"^ *((?:pub |ghost )?(?:use|mod) )((?:[^;{\n]|\{(?:[^{}]|\{[^{}]*\})*\})*);?$", re.MULTILINE)
+GROUP = r"\{(?:[^{}]|\{(?:[^{}]|\{[^{}]*\})*\})*\}"
+USE = re.compile(rf"^ *((?:pub |ghost )?(?:use|mod) )((?:[^;{{\n]|{GROUP})*);?$", re.MULTILINE)
 # A part of an import: a path, or names in braces behind one.
-PARTS = re.compile(r"([^\s,{}](?:[^,{}\n]*))(?:\{((?:[^{}]|\{[^{}]*\})*)\})?")
+PARTS = re.compile(r"([^\s,{}](?:[^,{}\n]*))(?:\{((?:[^{}]|\{(?:[^{}]|\{[^{}]*\})*\})*)\})?")
 # The head of an `impl`: its parameters, which may have bounds with parameters, the trait if there is one, and the type.
 IMPL = re.compile(r"impl(?:<(?:->|[^<>]|<[^<>]*>)*>)? (?:(.*) for )?(.*?)(?: where.*)?")
 # A definition: its line, its name, the lines of its comment, and its text, which begins with the modules that it is in.
