@@ -98,7 +98,7 @@ impl<T: Eq> VecSet<T> {
     /// are dropped at the end. The capacity stays.
     ///
     /// If `f` only reads what it captures, a proof knows that the elements that are left are a filter
-    /// (`retained.filters`).
+    /// (`selection.filters`).
     ///
     /// # Preconditions
     ///
