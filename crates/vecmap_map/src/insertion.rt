@@ -1,5 +1,5 @@
 //! Insertion of one pair.
-ghost use Rattle.std.specs.Prelude.{◌≡◌, ◌^◌, ◌++◌, ◌∷◌, ◌<◌, ◌≤◌, Err, IfErr, IfOk, IfSome, IsTrue, None, Ok, OnErr, OnOk, Some, [], length, vec_capacity};
+ghost use Rattle.std.specs.Prelude.{◌≡◌, ◌^◌, ◌++◌, ◌∷◌, ◌<◌, ◌≤◌, Err, IfErr, IfOk, IfSome, IsTrue, None, Ok, OnErr, OnOk, Some, [], length};
 ghost use Rattle.vecmap_base.specs.{Indices.HasMatchAt, Insertions.{AddsKey, InsertsAt, PutsKey}, Pairs.{index_by, index_or_length, lookup, lookup_indexed}, Removals.FindsPair};
 ghost use Rattle.vecmap_map.specs.Contents.{FailsToInsert, FindsOrAppends, HasRoom, KeepsRoom, KeepsRoomAt, Refuses, RefusesAt};
 
@@ -30,7 +30,7 @@ impl<K, V> VecMap<K, V> {
     /// map.insert('c', 4)? // None
     /// map.as_slice() // [('a', 3), ('b', 2), ('c', 4)]
     /// ```
-    #[inline]
+    #[inline(always)]
     pub fn insert(&mut self, key: K, value: V) -> Result<Option<V>, Refused<(K, V)>>
     where
         K: Eq + Drop,
@@ -56,7 +56,7 @@ impl<K, V> VecMap<K, V> {
     /// map.insert_full('c', 4)? // (2, None)
     /// ```
     #[tactic(auto, using(vecmap_base::proofs::PairsLemmas::ByIndex::by_index))]
-    #[inline]
+    #[inline(always)]
     pub fn insert_full(&mut self, key: K, value: V) -> Result<(usize, Option<V>), Refused<(K, V)>>
     where
         K: Eq + Drop,
@@ -313,25 +313,6 @@ impl<K, V> VecMap<K, V> {
         if self.pairs.len() < self.pairs.capacity() {
             return Ok(());
         }
-
-        // The vector is passed by value. If a call got its address, a loop that inserts would store and load its length
-        // for each pair.
-        let empty = Vec::new(*self.pairs.allocator());
-        let (pairs, result) = grown(replace(&mut self.pairs, empty));
-        replace(&mut self.pairs, pairs).destroy_empty();
-        result
+        self.pairs.reserve(1)
     }
-}
-
-// Reserves capacity for one more item.
-#[inline(never)]
-fn grown<T>(mut items: Vec<T>) -> (Vec<T>, Result<(), AllocError>)
-    ensures list { result.0.items ≡ items.items }
-    ensures room { OnOk result.1 (length result.0.items < vec_capacity result.0) }
-    ensures capacity { vec_capacity items ≤ vec_capacity result.0 }
-    ensures err { OnErr result.1 ((vec_capacity items ≤ length items.items)
-        × (vec_capacity result.0 ≡ vec_capacity items)) }
-{
-    let result = items.reserve(1);
-    (items, result)
 }
