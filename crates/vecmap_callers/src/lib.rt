@@ -2,7 +2,6 @@
 //! would be.
 #![tactic(auto)]
 
-pub mod documents;
 pub mod editor;
 pub mod header_lists;
 pub mod interner;
