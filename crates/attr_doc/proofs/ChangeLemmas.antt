@@ -3,7 +3,7 @@ use Rattle.std.specs.Prelude.{◌≡◌, ◌++◌, ℕ, List, Ok, OnOk, Result, 
 use Rattle.std.specs.{Option.option_map_or, Str.str_eq_ignore_ascii_case, declared.alloc.Global.Global}
 use Rattle.std.proofs.Common.{sym, ap, ◌∙◌, subst}
 use Rattle.vecmap.specs.{Contents.{Contents, with_value_of}, Pairs.{index_of, lookup, put, puts}}
-use Rattle.vecmap_laws.proofs.{WriteLemmas.with_value_of_is_put, AfterPuts.put_same, EachValue.{lookup_map_values, map_values_put}}
+use Rattle.vecmap_laws.proofs.{AfterPuts.put_same, EachPair.{lookup_map_values, map_values_put}, QueryLemmas.with_value_of_is_put}
 use Rattle.attr_doc.specs.Documents.{Section, Sections, Stored, merge_of, sections_of, with_section, with_text}
 
 -- The insertion of a section in the map, seen in the document: what was made from the existing section is inserted.

@@ -3,8 +3,7 @@ use Rattle.std.specs.Prelude.{◌≡◌, ℕ, List, [], ◌∷◌, None, Option,
 use Rattle.std.specs.{List.IsDistinct, Option.option_map_or, Str.str_eq_ignore_ascii_case, declared.alloc.Global.Global}
 use Rattle.std.proofs.{Common.{sym, subst, arith}, lemmas.List.Elements.{All-head, All-nil, All-tail}, lemmas.Map.Made.keys_of-map_values}
 use Rattle.vecmap.specs.Pairs.{HasDistinctKeys, lookup, put, puts}
-use Rattle.vecmap_laws.proofs.AfterPuts.{puts_some}
-use Rattle.vecmap_laws.proofs.{DistinctKeys.distinct_puts, EachValue.{holds_after_put, holds_of_found}}
+use Rattle.vecmap_laws.proofs.{AfterPuts.puts_some, DistinctKeys.distinct_puts, EachPair.{holds_after_put, holds_of_found}}
 use Rattle.attr_doc.specs.Documents.{IsDocument, IsSection, Section, Sections, Stored, ignoring_case_equiv, merge_of, sections_of, with_section, with_text}
 
 no_names : IsDistinct str_eq_ignore_ascii_case []

@@ -1,5 +1,5 @@
 mod ChangeLemmas
 mod DocumentLemmas
-mod EqualityLemmas
 mod RoomLemmas
-mod TextLemmas
+mod SameTexts
+mod TwoLookups

@@ -3,7 +3,7 @@ use Rattle.std.specs.{Prelude.{◌≡◌, ◌≤◌, ℕ, false, true, List, ◌
 use Rattle.std.{specs.Str.str_eq_ignore_ascii_case, proofs.{Common.{sym, ap, ◌∙◌, subst, arith, inl, inr}, lemmas.Bool.cases_Bool}}
 use Rattle.std.proofs.lemmas.List.{length-map, Elements.{All-cons, All-head, All-nil, All-tail}}
 use Rattle.vecmap.specs.{Contents.{Contents, HasRoom, with_value_of}, Pairs.{index_of, lookup, put}}
-use Rattle.vecmap_laws.proofs.{Lookups.{lookup_put, lookup_put_other, lookup_congr}, WriteLemmas.with_value_of_is_put}
+use Rattle.vecmap_laws.proofs.{LookupLemmas.{lookup_put, lookup_put_other, lookup_congr}, QueryLemmas.with_value_of_is_put}
 use Rattle.attr_doc.specs.Documents.{HasRoomAt, IsRoomFor, Stored, ignoring_case_equiv, sections_of}
 
 pub same_length : (l k : List (List ℕ × Stored)) → sections_of l ≡ sections_of k → length l ≡ length k

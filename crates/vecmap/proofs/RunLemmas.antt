@@ -6,7 +6,7 @@ use Rattle.vecmap.specs.{declared.map_run.command.MapCommand.MapCommand, declare
 use Rattle.vecmap.specs.SetRun as sets
 use Rattle.vecmap.specs.{declared.set_run.command.SetCommand.SetCommand, declared.set_run.reply.SetReply.SetReply}
 use Rattle.vecmap_map.specs.Contents.{Contents}
-use Rattle.vecmap_set.specs.Contents as set
+use Rattle.vecmap_set.specs.SetContents as set
 
 module _ {K V : Type 0} (eq : K → K → Bool) (eq_value : V → V → Bool) (keys : clone.Ghosts K) (values : clone.Ghosts V) where
   -- A run, and then one more step.

@@ -8,7 +8,7 @@ use Rattle.vecmap.specs.declared.set_run.command.SetCommand.TheVariants.{Contain
 use Rattle.vecmap.specs.declared.set_run.reply.SetReply.TheVariants.{Done, Item, Items, Made, NoMemory, Number, OutOfRange, Place, Truth}
 use Rattle.vecmap_base.specs.{Clones.{AreClones, IsCloneOf}, Equality.{has_same_items, is_within}}
 use Rattle.vecmap_base.specs.Items.{add, put_item, adds, both, item_index, only, stored_item, swap_without, swap_without_item, without_item}
-use Rattle.vecmap_set.specs.{Contents.{Contents, HasRoom, IsFull, KeepsRoom}, Operators.{symmetric_difference_of, union_of}}
+use Rattle.vecmap_set.specs.{Operators.{symmetric_difference_of, union_of}, SetContents.{Contents, HasRoom, IsFull, KeepsRoom}}
 
 module _ {T : Type 0} where
   -- The reply is the set that was created, or `NoMemory`.

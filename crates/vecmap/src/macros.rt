@@ -2,8 +2,7 @@
 ghost use Rattle.std.specs.{Prelude.{◌≡◌, IsTrue, OnErr, OnOk}, Set.is_member};
 ghost use Rattle.vecmap_base.specs.Insertions.{AddsKey};
 ghost use Rattle.vecmap_map.specs.Contents.{KeepsRoom, Refuses};
-ghost use Rattle.vecmap_set.specs.Contents.{KeepsRoom as SetKeepsRoom, Refuses as SetRefuses};
-ghost use Rattle.vecmap_set.specs.Insertions.{AddsItem};
+ghost use Rattle.vecmap_set.specs.{SetContents.{KeepsRoom as SetKeepsRoom, Refuses as SetRefuses}, SetInsertions.AddsItem};
 
 use crate::{VecMap, VecSet};
 use std::alloc::AllocError;

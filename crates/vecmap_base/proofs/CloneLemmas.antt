@@ -1,7 +1,17 @@
--- Clones of items that are inserted in order, and one clone more.
-use Rattle.std.proofs.Common.{arith, ◌≡◌, List, [], ◌∷◌, ◌++◌, fold, map, sym, subst}
-use Rattle.std.proofs.lemmas.{List.map_push, List.Elements.AllZip-push, List.Sums.fold_push}
-use Rattle.vecmap_base.specs.Clones.{AreClones}
+-- What lookups find in a list of clones, and clones of items that are inserted in order, with one clone more.
+use Rattle.std.specs.{Cmp.IsEquivalence, Map.IsKeyTest}
+use Rattle.std.proofs.{Common.{arith, ◌≡◌, Bool, true, List, [], ◌∷◌, ◌++◌, fold, map, sym, subst}, lemmas.List.{map_push, Elements.AllZip-push}}
+use Rattle.std.proofs.lemmas.List.Sums.{fold_push}
+use Rattle.vecmap_base.{specs.{Clones.{ArePairClones, ClonesAreSame, AreClones}, Pairs.lookup_by}, proofs.PairsLemmas.LookupsAfterChanges.same_answer}
+
+module _ {K V : Type 0} (C : K → K → Type 0) (D : V → V → Type 0) (same_values : ClonesAreSame D) where
+  module _ (eq : K → K → Bool) (o : IsEquivalence eq) (equal_keys : (x y : K) → C x y → eq x y ≡ true) (test : K → Bool) (respects : IsKeyTest eq test) where
+    -- If clones of keys are equal and clones of values are the same, a query finds the same.
+    pub lookup_by_cloned : (l m : List (K × V)) → ArePairClones C D l m → lookup_by test m ≡ lookup_by test l
+    lookup_by_cloned [] [] c = grind (arith, same_answer)
+    lookup_by_cloned [] (q ∷ qs) c = grind (arith, same_answer)
+    lookup_by_cloned (p ∷ ps) [] c = grind (arith, same_answer)
+    lookup_by_cloned (p ∷ ps) (q ∷ qs) c = grind (arith, same_answer, (lookup_by_cloned ps qs c.1))
 
 module _ {A S : Type 0} (is_clone : A → A → Type 0) (f : S → A → S) where
   -- Clones of the items, inserted in order, lead from `old` to `new`.

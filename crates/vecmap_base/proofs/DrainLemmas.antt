@@ -1,10 +1,13 @@
--- A list whose end a drain holds, in order or reversed.
+-- A list whose end a drain holds, in order or reversed, and what the drain returns and leaves, over any sequence of
+-- calls of `next` and `next_back`.
+use Rattle.std.specs.{Iterator.Runs.{YieldsInOrder, YieldsInReverse}, List.{remove_range, Sorted.IsPermutation}}
 use Rattle.std.specs.Prelude.{◌≡◌, ℕ, zero, suc, ◌-◌, ◌<◌, ◌≤◌, Bool, true, false, List, [], ◌∷◌, ◌++◌, drop, length, not, reverse, refl, slice_range, take}
-use Rattle.std.specs.{List.remove_range, List.Sorted.IsPermutation, Vec.Iter.reverse_if}
+use Rattle.std.specs.Vec.Iter.{reverse_if}
 use Rattle.std.proofs.Common.{sym, ap, ◌∙◌, append_assoc, arith, drop_at, length-append, length-drop, length-take, subst, take_at}
-use Rattle.std.proofs.lemmas.List.{append-nil, drop_all, length-reverse, length_push, reverse-append, reverse-reverse, take-append-le}
-use Rattle.std.proofs.{lemmas.List.Edits.split_between, lemmas.List.Folds.drop_split}
-use Rattle.std.proofs.lemmas.List.Sorted.{IsPermutation-append_comm, IsPermutation-append_right, IsPermutation-reverse, IsPermutation-trans}
+use Rattle.std.proofs.iter.runs.Sources.{as_is, as_is_back, from_back, from_front}
+use Rattle.std.proofs.lemmas.List.{append-nil, drop_all, length-reverse, length_push, reverse-append, reverse-reverse, take-append-le, Edits.split_between}
+use Rattle.std.proofs.lemmas.List.{Folds.drop_split, Sorted.{IsPermutation-append_comm, IsPermutation-append_right, IsPermutation-reverse, IsPermutation-trans}}
+use Rattle.vecmap_base.specs.Drains.{DrainsFirst, DrainsLast, KeepsAlong}
 use mathlib.Core.Bool.{beq}
 use lib.ListN.{length-drop, length-take}
 
@@ -83,3 +86,26 @@ module _ {X : Type 0} where
       → (reverse_if b (drop k ys) ≡ reverse_if a (drop k xs)) × (take k ys ≡ take k xs)
   unfolding reverse_if
   end_reversed a b xs ys k apart le reversed = grind (arith, length-take, drop_at, take_at, reverse-reverse)
+
+module _ {D A : Type 0} (rest : D → List A) (Keeps : D → D → Type 0) where
+  -- Calls of `next` return the rest in order.
+  pub drains_in_order : YieldsInOrder (DrainsFirst rest Keeps) rest
+  drains_in_order p s = as_is p (rest p.from) (from_front (DrainsFirst rest Keeps) (λ y. y) rest (λ s t h. ap length h.0) (λ s x t h. h.0) p s)
+
+  -- Calls of `next_back` return the rest in reverse.
+  pub drains_in_reverse : YieldsInReverse (DrainsLast rest Keeps) rest
+  drains_in_reverse p s = as_is_back p (rest p.from) (from_back (DrainsLast rest Keeps) (λ y. y) rest (λ s t h. ap length h.0) (λ s x t h. h.0) p s)
+
+  module _ (same : (s : D) → Keeps s s) (on : (s t u : D) → Keeps s t → Keeps t u → Keeps s u) where
+    -- What one call of `next` keeps, a sequence of them keeps.
+    pub keeps_along : (s : D) → KeepsAlong (DrainsFirst rest Keeps) Keeps s
+    keeps_along s [] t y = subst (Keeps s) y (same s)
+    keeps_along s (x ∷ xs) t y = on s y.0 t y.1.1 (keeps_along y.0 xs t y.2)
+
+    -- What one call of `next_back` keeps, a sequence of them keeps.
+    pub keeps_along_back : (s : D) → KeepsAlong (DrainsLast rest Keeps) Keeps s
+    keeps_along_back s [] t y = subst (Keeps s) y (same s)
+    keeps_along_back s (x ∷ xs) t y = on s y.0 t y.1.1 (keeps_along_back y.0 xs t y.2)
+
+-- The lemmas for the goals of the calls of a drain.
+pub ruleset drains = (length_rest, none_left, part_at_end, parts_of_moved, end_reversed, first_pulled, last_pulled, keeps_along, keeps_along_back, length_push)

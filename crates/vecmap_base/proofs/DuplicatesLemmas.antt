@@ -1,4 +1,3 @@
 -- Lemmas about the removal of duplicates in place, and about the number of comparisons that it and a search make.
-pub mod Comparisons
-pub mod Cost
+pub mod ComparisonCounts
 pub mod Gather

@@ -6,9 +6,8 @@ use Rattle.std.proofs.lemmas.Option.{none-some, slice_get_within}
 use Rattle.vecmap_base.specs.Insertions.{AddsKey, InsertsAt, PutsKey, SetsKey}
 use Rattle.vecmap_base.specs.Pairs.{index_by, index_of, index_or_length, lookup, put, put_at, put_key, with_pair}
 use Rattle.vecmap_base.proofs.{IndexLemmas.slice_get_last, MoveLemmas.{front_inserted, inserted_found}, PairsLemmas.AtIndices.{match_at, same_indices, stays}}
-use Rattle.vecmap_base.proofs.{PairsLemmas.ByIndex.{index_by_none, is_some_lookup_by, put_key_by_index}, PairsLemmas.Lookups.updates_of_put}
-use Rattle.vecmap_base.proofs.{PairsLemmas.Indices.is_some_index_of, PairsLemmas.Keys.{keys_of_insert, keys_of_put}}
-use Rattle.vecmap_base.proofs.{PairsLemmas.Puts.{put_absent, put_stored}, PairsLemmas.Updates.{updates_put_at, updates_put_key}}
+use Rattle.vecmap_base.proofs.PairsLemmas.{ByIndex.{index_by_none, is_some_lookup_by, put_key_by_index, is_some_index_of}, Keys.{keys_of_insert, keys_of_put}}
+use Rattle.vecmap_base.proofs.PairsLemmas.{LookupsAfterChanges.updates_of_put, Puts.{put_absent, put_stored}, Updates.{updates_put_at, updates_put_key}}
 
 suc_unwrapped : (found : Option ℕ) (n : ℕ) → suc (unwrap_or found n) ≡ unwrap_or (option_map suc found) (suc n)
 suc_unwrapped None n = refl

@@ -4,7 +4,7 @@ use Rattle.std.proofs.Common.{ap, arith, get_or, set, subst, sym, ◌∙◌}
 use Rattle.std.specs.Prelude.{◌≡◌, ℕ, ◌+◌, ◌<◌, ◌≤◌, Bool, true, false, List, [], ◌∷◌, ◌++◌, drop, if◌then◌else◌, length, map, refl, take}
 use Rattle.std.specs.List.{FoldsTo, SwappedAt}
 use Rattle.std.proofs.lemmas.List.{drop-set-lt, drop_more, get_or-set_same, length-set, take-append-drop, take-set-le, take_all, take_more, take_more_set}
-use Rattle.vecmap_base.specs.{Asked.{CallableOnEach, SomeCall}, Kept.{Kept, KeptSoFar, WritesItems}}
+use Rattle.vecmap_base.specs.{FnMutCalls.{CallableOnEach, SomeCall}, Kept.{Kept, KeptSoFar, WritesItems}}
 use Rattle.vecmap_base.proofs.DuplicatesLemmas.Gather.{front_swapped, rest_more}
 
 module _ {X : Type 0} where

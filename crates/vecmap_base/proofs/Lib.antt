@@ -1,7 +1,6 @@
 pub mod CloneLemmas
 pub mod DistinctLemmas
 pub mod DrainLemmas
-pub mod DrainRuns
 pub mod DuplicatesLemmas
 pub mod EqualityLemmas
 pub mod ItemsLemmas

@@ -6,7 +6,7 @@ use Rattle.vecmap_base.specs.{Items.swap_without, Pairs.{HasDistinctKeys, lookup
 use Rattle.vecmap_base.specs.Removals.{FindsPair, ForgetsIndex, ForgetsKey, RemovesAt, RemovesBy, RemovesLast, SplitsAt}
 use Rattle.vecmap_base.proofs.IndexLemmas.{list_any_position}
 use Rattle.vecmap_base.proofs.PairsLemmas.ByIndex.{index_by_is, index_by_none, is_some_lookup_by, is_some_lookup_pair_by, value_of_pair_by, without_by_index}
-use Rattle.vecmap_base.proofs.{PairsLemmas.Distinct.{distinct_keys_rearranged, distinct_keys_remove}, PairsLemmas.Parts.{keeps_front_of, lookup_by_append}}
+use Rattle.vecmap_base.proofs.PairsLemmas.{LookupsAfterChanges.{distinct_keys_rearranged, distinct_keys_remove}, ManyPairs.{keeps_front_of, lookup_by_append}}
 use Rattle.vecmap_base.proofs.PairsLemmas.Updates.{key_passes, lookup_by_taken, updates_of_first}
 use Rattle.vecmap_base.proofs.TakenLemmas.{TakesFirst, first_by_shift, first_by_swap, last_read, last_taken, len_of_first, len_popped, one_less, taken_by_shift, taken_by_swap}
 

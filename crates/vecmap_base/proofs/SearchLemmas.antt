@@ -3,7 +3,7 @@ use Rattle.std.proofs.Math.Nat.{pow-suc}
 use Rattle.std.proofs.Common.{◌≡◌, ℕ, zero, suc, ◌+◌, ◌*◌, ◌/◌, ◌^◌, ◌<◌, ◌≤◌, Bool, true, false, List, length, get_or, HoldsAt, if◌then◌else◌, ap, sym, ◌∙◌, arith, refl, subst, true≢false}
 use Rattle.std.specs.{List.AllWithin, List.Sorted.{IsNonDecreasingBy, IsPartitionPoint, IsPartitionedBy}, Ordering.{is_le, ordering_index}}
 use Rattle.std.specs.{declared.cmp.Ordering.Ordering, declared.cmp.Ordering.TheVariants.{Less, Equal, Greater}}
-use Rattle.vecmap_base.specs.Orders.{side}
+use Rattle.vecmap_base.specs.FnCalls.{side}
 
 -- Nothing is below `Less`, or above `Greater`.
 is_less : (o : Ordering) → ordering_index o ≤ ordering_index Less → o ≡ Less

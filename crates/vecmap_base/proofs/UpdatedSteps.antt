@@ -2,7 +2,7 @@
 use Rattle.std.specs.Prelude.{◌≡◌, ℕ, ◌+◌, ◌<◌, ◌≤◌, List, [], ◌∷◌, ◌++◌, drop, length, refl, take}
 use Rattle.std.proofs.Common.{ap, append_assoc, arith, get_or, set, sym, ◌∙◌}
 use Rattle.std.proofs.lemmas.List.{drop-set-lt, drop_more, get_or_default, length-set, take-append-drop, take_all, take_more_set}
-use Rattle.vecmap_base.specs.{Asked.CallableOnEach, Kept.KeptSoFar, Updated.{Keeping, Updated}}
+use Rattle.vecmap_base.specs.{FnMutCalls.CallableOnEach, Kept.KeptSoFar, Updated.{Keeping, Updated}}
 use Rattle.vecmap_base.proofs.{DuplicatesLemmas.Gather.rest_more, KeptLemmas.{callable_here, kept_all, kept_here}}
 
 module _ {F X : Type 0} (R : F → X → X → F → Type 0) where

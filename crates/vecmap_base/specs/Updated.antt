@@ -2,7 +2,7 @@
 -- `sets c` is a closure that sets each value to `c`.
 use Rattle.std.specs.{Prelude.{◌≡◌, ◌<◌, ℕ, Bool, true, IsSome, List, ◌∷◌, ◌++◌, Some, length, map, option_map, Result, Ok, Err}, Borrow.{Bor, MutBor}}
 use Rattle.std.specs.{Fn.{Called, Mut, Takes}, List.All, Map.values_of}
-use Rattle.vecmap_base.specs.{Asked.CallableOnEach, Indices.KeepsIndices, Kept.Kept, Pairs.{lookup_by, map_values, value_at}}
+use Rattle.vecmap_base.specs.{FnMutCalls.CallableOnEach, Indices.KeepsIndices, Kept.Kept, Pairs.{lookup_by, map_values, value_at}}
 
 module _ {F X : Type 0} (R : F → X → X → F → Type 0) where
   -- Calls that return nothing, seen as the calls of a retaining closure that keeps each item.

@@ -1,7 +1,7 @@
 //! Functions that retain the items for which a closure returns `true`. Nothing is shifted, and one truncation at the
 //! end removes the others.
 ghost use Rattle.std.specs.{Prelude.{◌≡◌, ◌+◌, ◌≤◌, ◌&&◌, Bool, length, vec_capacity}, Fn.TakesAt, List.list_any};
-ghost use Rattle.vecmap_base.specs.Asked.{CallableAtPair, CallableAtPairMut, CallableOnEach, CallsAtItem, CallsAtPair, CallsAtPairMut};
+ghost use Rattle.vecmap_base.specs.FnMutCalls.{CallableAtPair, CallableAtPairMut, CallableOnEach, CallsAtItem, CallsAtPair, CallsAtPairMut};
 ghost use Rattle.vecmap_base.specs.Kept.{KeepsKeys, Kept, KeptSoFar, RetainsPairs, ReturnsAt};
 
 /// Retains only the pairs for which `f` returns `true`, each with the value as `f` left it.

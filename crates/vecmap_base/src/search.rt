@@ -8,7 +8,7 @@
 ghost use Rattle.std.specs.{Prelude.{◌≡◌, ℕ, ◌+◌, ◌^◌, ◌<◌, ◌≤◌, Bool, false, if◌then◌else◌, length, true}, List.{All, HoldsAt}};
 ghost use Rattle.std.specs.List.Sorted.{IsBinarySearchResult, IsPartitionPoint, IsPartitionedBy, IsSearchInRange};
 ghost use Rattle.std.specs.declared.cmp.Ordering.{Ordering};
-ghost use Rattle.vecmap_base.specs.Orders.{CallableBelow, CallableOnItem, ReturnsAtIndex, ReturnsOnItems, side};
+ghost use Rattle.vecmap_base.specs.FnCalls.{CallableBelow, CallableOnItem, ReturnsAtIndex, ReturnsOnItems, side};
 
 use crate::unrolled::is_small;
 use std::cmp::Ordering;

@@ -13,7 +13,7 @@
 ghost use Rattle.std.specs.Map.{values_of};
 ghost use Rattle.std.specs.Prelude.{◌≡◌, ◌+◌, ◌-◌, ◌<◌, ◌^◌, ℕ, IfOk, List, None, Ok, OnErr, OnOk, Some, [], false, filter, if◌then◌else◌, is_some, length, map, min, nat_eq, not, slice_get, slice_index_or, string_bytes, sum, unwrap_or};
 ghost use Rattle.vecmap.specs.Pairs.{lookup, lookup_by, put, puts};
-ghost use Rattle.vecmap_laws.specs.TextPairs.{both_equal, has_texts};
+ghost use Rattle.vecmap_laws.specs.MapLaws.{both_equal, has_texts};
 
 use std::alloc::{AllocError, Global};
 use vecmap::VecMap;

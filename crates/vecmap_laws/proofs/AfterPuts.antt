@@ -1,12 +1,39 @@
--- What is found, and at which index, after one insertion, after many, and after a removal.
-use Rattle.std.specs.{Cmp.IsEquivalence, List.list_any, Option.{option_and_then, option_map, option_map_or, option_or}}
-use Rattle.std.specs.Map.{keys_of}
-use Rattle.std.proofs.Common.{Bool, List, None, Option, Some, [], ap, arith, if◌then◌else◌, is_some, length, length-append, refl, slice_get, suc, sym, true, true≢false, unwrap_or, zero, ℕ, ◌++◌, ◌+◌, ◌<◌, ◌∙◌, ◌∷◌, ◌≡◌}
-use Rattle.std.proofs.lemmas.{List.length-map, Map.{Made.is_some-lookup, lookup-remove_entry}, Option.slice_get-map}
-use Rattle.vecmap_base.specs.Pairs.{HasDistinctKeys, index_of, index_or_length, lookup, put, put_key, puts, value_at, with_value, without_key}
-use Rattle.vecmap_base.proofs.PairsLemmas.{ByIndex.{lookup_by_index, put_by_index}, Indices.is_some_index_of, Keys.{index_of_is, keys_of_put}, Lookups.updates_put, Parts.joins_of_puts, Puts.{put_some, put_stored}, Updates.put_key_finds_as_put, Values.with_value_cons}
-use Rattle.vecmap_laws.proofs.{ItemIndices.{item_index_add, item_index_congr, item_index_own}, KeyIndices.index_of_none}
-use Rattle.vecmap_laws.proofs.{ItemQueries.without_item_absent, OneMore.keys_of_without_key}
+-- What is found, and at which index, after one insertion, after many, after a removal, with one pair more, and in the
+-- front of a list.
+use Rattle.std.specs.{Cmp.IsEquivalence, List.list_any, Map.keys_of, Option.{option_and_then, option_map_or, option_or}, Prelude.nat_lt}
+use Rattle.std.proofs.Common.{Bool, List, None, Option, Some, [], ap, arith, false, if◌then◌else◌, option_map, position, suc, sym, take, zero, ℕ, ◌∙◌, ◌∷◌, ◌≡◌, is_some, length, length-append, refl, slice_get, true, true≢false, unwrap_or, ◌++◌, ◌+◌, ◌<◌}
+use Rattle.std.proofs.lemmas.{List.length-map, Map.{lookup-remove_entry, Made.is_some-lookup}, Option.slice_get-map}
+use Rattle.vecmap_base.specs.Pairs.{index_by, index_of, index_or_length, HasDistinctKeys, lookup, put, put_key, puts, value_at, with_value, without_key}
+use Rattle.vecmap_base.proofs.IndexLemmas.{list_any_map, position_cons, position_none}
+use Rattle.vecmap_base.proofs.PairsLemmas.ByIndex.{index_by_is, lookup_by_index, put_by_index, is_some_index_of}
+use Rattle.vecmap_base.proofs.PairsLemmas.{Keys.{index_of_cons, index_of_is, keys_of_put}, LookupsAfterChanges.updates_put, ManyPairs.joins_of_puts}
+use Rattle.vecmap_base.proofs.PairsLemmas.{Puts.{put_some, put_stored}, Updates.put_key_finds_as_put, Values.with_value_cons}
+use Rattle.vecmap_laws.proofs.{ItemLemmas.{item_index_add, item_index_congr, item_index_own, without_item_absent}, OneMore.keys_of_without_key}
+
+module _ {K V : Type 0} (p : K × V) (ps : List (K × V)) where
+  module _ (eq : K → K → Bool) (k : K) where
+    pub index_or_length_cons : index_or_length eq (p ∷ ps) k ≡ (if eq k p.0 then 0 else suc (index_or_length eq ps k))
+    index_or_length_cons = grind (arith, index_of_cons)
+
+module _ {K V : Type 0} (eq : K → K → Bool) where
+  pub index_of_none : (l : List (K × V)) (k : K) → list_any (eq k) (keys_of l) ≡ false → index_of eq l k ≡ None
+  index_of_none l k e = index_by_is (eq k) l ∙ position_none (λ p. eq k p.0) l (sym (list_any_map (eq k) (λ p. p.0) l) ∙ e)
+
+-- The index `found`, if it is below `n`.
+abbrev pub below : ℕ → Option ℕ → Option ℕ
+below n found = option_and_then (λ i. if nat_lt i n then Some i else None) found
+
+module _ {X : Type 0} (p : X → Bool) where
+  -- In the first `n` items, the index stays if it is below `n`.
+  pub position_take : (n : ℕ) (xs : List X) → position p (take n xs) ≡ below n (position p xs)
+  position_take zero xs = grind (arith, position_cons, option_map)
+  position_take (suc n) [] = grind (arith, position_cons, option_map)
+  position_take (suc n) (x ∷ xs) = grind (arith, position_cons, option_map, (position_take n xs))
+
+module _ {K V : Type 0} (test : K → Bool) where
+  -- In the first `n` pairs, the index stays if it is below `n`.
+  pub index_by_take : (n : ℕ) (l : List (K × V)) → index_by test (take n l) ≡ below n (index_by test l)
+  index_by_take n l = index_by_is test (take n l) ∙ position_take (λ p. test p.0) n l ∙ ap (below n) (sym (index_by_is test l))
 
 module _ {K V : Type 0} where
   -- A write of a value leaves the number of pairs.

@@ -6,15 +6,14 @@ use Rattle.std.proofs.lemmas.Grind.{common_steps}
 use Rattle.std.specs.Prelude.{nat_lt}
 use Rattle.vecmap_base.specs.{Equality.has_same_counts, Items.{add, adds, swap_without_item, without_item}}
 use Rattle.vecmap_base.specs.Pairs.{HasDistinctKeys, index_of, index_or_length, lookup, put, put_at, put_key, puts, swap_without_key, value_at, with_value, without_key}
-use Rattle.vecmap_base.proofs.ItemsLemmas.Members.{is_member_adds}
-use Rattle.vecmap_base.proofs.PairsLemmas.{ByIndex.{index_by_is, lookup_by_index}, Distinct.distinct_put, Updates.distinct_put_key}
+use Rattle.vecmap_base.proofs.{ItemsLemmas.Members.is_member_adds, PairsLemmas.{ByIndex.{index_by_is, lookup_by_index}, LookupsAfterChanges.distinct_put}}
+use Rattle.vecmap_base.proofs.PairsLemmas.Updates.{distinct_put_key}
 use Rattle.vecmap_laws.proofs.AfterPuts.{index_of_without_key, lookup_put_any, lookup_puts_distinct, lookup_without_any}
-use Rattle.vecmap_laws.proofs.DistinctKeys.{distinct_keys_swap_without_key, distinct_keys_take, distinct_put_at, distinct_puts}
-use Rattle.vecmap_laws.proofs.{DistinctParts.distinct_keys_drop, Lookups.{lookup_without_key, lookup_without_key_other}}
+use Rattle.vecmap_laws.proofs.DistinctKeys.{distinct_keys_swap_without_key, distinct_keys_take, distinct_put_at, distinct_puts, distinct_keys_drop}
 use Rattle.vecmap_laws.proofs.Finds.{distinct_keys_reverse, distinct_swapped, distinct_without_key, is_member_swap_without, is_member_without, lookup_drop, lookup_put_at_any, lookup_put_key_any, lookup_reverse, lookup_swap, lookup_swap_without_key, lookup_swapped, lookup_take, present}
-use Rattle.vecmap_laws.proofs.{ItemMembers.is_member_add, MapEquality.lookups_of_equal, Puts.{put_put, puts_restore}}
-use Rattle.vecmap_laws.proofs.{NewKeys.absent_among, RemovalLemmas.passing_at}
-use Rattle.vecmap_laws.proofs.{OtherPairs.{put_back, without_absent}, WriteLemmas.lookup_written_at}
+use Rattle.vecmap_laws.proofs.{ItemLemmas.is_member_add, LookupLemmas.{lookup_without_key, lookup_without_key_other, absent_among}}
+use Rattle.vecmap_laws.proofs.{MapEquality.lookups_of_equal, OtherPairs.{put_back, without_absent}, PutLemmas.{put_put, puts_restore}}
+use Rattle.vecmap_laws.proofs.{QueryLemmas.lookup_written_at, TakenOut.passing_at}
 
 module _ {V : Type 0} where
   pub lookup_put_of_numbers : (l : List (ℕ × V)) (k : ℕ) (v : V) (q : ℕ) → lookup nat_eq (put nat_eq l k v) q ≡ (if nat_eq k q then Some v else lookup nat_eq l q)

@@ -3,8 +3,7 @@ use Rattle.std.specs.{Cmp.IsEquivalence, List.IsDistinct, Map.keys_of}
 use Rattle.std.proofs.Common.{◌≡◌, suc, ◌+◌, Bool, List, [], ◌∷◌, ◌++◌, length, sym, ap, ◌∙◌, subst, arith}
 use Rattle.std.proofs.lemmas.{List.{append_assoc, length_push}, Map.Entries.length-keys_of}
 use Rattle.vecmap_base.specs.{Comparisons.{adds_cost, comparisons, cost}, Pairs.HasDistinctKeys}
-use Rattle.vecmap_base.proofs.{DistinctLemmas.Absent.none_before, ItemsLemmas.Additions.add_absent}
-use Rattle.vecmap_base.proofs.DuplicatesLemmas.{Comparisons.search_cost_absent, Cost.cost_more}
+use Rattle.vecmap_base.proofs.{DistinctLemmas.none_before, DuplicatesLemmas.ComparisonCounts.{search_cost_absent, cost_more}, ItemsLemmas.Additions.add_absent}
 
 module _ {T : Type 0} (eq : T → T → Bool) (o : IsEquivalence eq) where
   adds_cost_distinct : (s xs : List T) → IsDistinct eq (s ++ xs) → adds_cost eq s xs + cost (length s) ≡ cost (length s + length xs)

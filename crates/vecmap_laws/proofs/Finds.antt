@@ -5,12 +5,11 @@ use Rattle.std.proofs.Common.{Bool, List, None, Option, Some, [], ap, arith, dro
 use Rattle.std.proofs.lemmas.{Bool.Decides.nat_tests, List.Sorted.IsPermutation-reverse}
 use Rattle.vecmap_base.specs.Items.{swap_without, swap_without_item, without_item}
 use Rattle.vecmap_base.specs.Pairs.{HasDistinctKeys, index_of, index_or_length, lookup, put_at, put_key, swap_without_key, without_key}
-use Rattle.vecmap_base.proofs.PairsLemmas.{Distinct.distinct_keys_rearranged, Order.lookup_by_rearranged, Parts.lookup_by_take}
+use Rattle.vecmap_base.proofs.PairsLemmas.{LookupsAfterChanges.{distinct_keys_rearranged, lookup_by_rearranged}, ManyPairs.lookup_by_take}
 use Rattle.vecmap_base.proofs.RemovalLemmas.{swap_removes_by}
-use Rattle.vecmap_laws.proofs.{AfterPuts.{is_some_lookup, lookup_put_any, lookup_put_key}, Lookups.lookup_congr}
-use Rattle.vecmap_laws.proofs.{DistinctKeys.distinct_keys_without, HeadLemmas.{head_has_no_value, rest_is_distinct}}
-use Rattle.vecmap_laws.proofs.{Inserted.lookup_put_at, RemovalLemmas.{is_member_by_test, remove_leaves, swap_leaves}}
-use Rattle.vecmap_laws.proofs.{KeyIndices.index_or_length_cons, OneMore.lookup_cons}
+use Rattle.vecmap_laws.proofs.{AfterPuts.{is_some_lookup, lookup_put_any, lookup_put_key, index_or_length_cons}, DistinctKeys.distinct_keys_without}
+use Rattle.vecmap_laws.proofs.{Inserted.lookup_put_at, LookupLemmas.{lookup_congr, head_has_no_value, rest_is_distinct}, OneMore.lookup_cons}
+use Rattle.vecmap_laws.proofs.TakenOut.{is_member_by_test, remove_leaves, swap_leaves}
 
 module _ {K V : Type 0} (eq : K → K → Bool) (o : IsEquivalence eq) where
   -- If all keys are distinct, lookups do not depend on the order.

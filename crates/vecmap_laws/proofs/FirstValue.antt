@@ -2,9 +2,8 @@
 use Rattle.std.proofs.Common.{arith, ◌≡◌, Bool, List, [], ◌∷◌, ◌++◌, None, Some, if◌then◌else◌, ap, refl, sym, unwrap_or, ◌∙◌}
 use Rattle.std.specs.{Cmp.IsEquivalence, Map.keys_of, Option.{option_and_then, option_or}}
 use Rattle.vecmap_base.proofs.{PairsLemmas.Keys.keys_of_put, PairsLemmas.ByIndex.lookup_by_index, PairsLemmas.Puts.put_absent}
-use Rattle.vecmap_laws.specs.FirstValue.{put_new, puts_new}
-use Rattle.vecmap_laws.proofs.{AfterPuts.{lookup_put_any, put_same}, ItemIndices.or_none, Lookups.lookup_congr}
-use Rattle.vecmap_laws.proofs.OneMore.{lookup_cons}
+use Rattle.vecmap_laws.specs.MapLaws.{put_new, puts_new}
+use Rattle.vecmap_laws.proofs.{AfterPuts.{lookup_put_any, put_same}, ItemLemmas.or_none, LookupLemmas.lookup_congr, OneMore.lookup_cons}
 use Rattle.vecmap_base.specs.{Items.adds, Pairs.{index_of, lookup, put, value_at}}
 
 module _ {K V : Type 0} (eq : K → K → Bool) where

@@ -4,8 +4,8 @@ use Rattle.std.proofs.lemmas.Option.{none-some}
 use Rattle.std.specs.{Cmp.IsEquivalence, Option.option_and_then, Option.option_map_or}
 use Rattle.vecmap_base.proofs.PairsLemmas.{ByIndex.index_by_none, ByIndex.lookup_by_index, ByIndex.without_by_index, Updates.updates_put_at}
 use Rattle.vecmap_base.specs.Pairs.{HasDistinctKeys, index_of, lookup, put_at, value_at, with_pair, without_key}
-use Rattle.vecmap_laws.proofs.{AfterPuts.{index_of_own, index_of_without_key, lookup_own, lookup_without_any}, Lookups.{look, lookup_congr}}
-use Rattle.vecmap_laws.proofs.Puts.{put_at_absent}
+use Rattle.vecmap_laws.proofs.{AfterPuts.{index_of_own, index_of_without_key, lookup_own, lookup_without_any}, LookupLemmas.{look, lookup_congr}}
+use Rattle.vecmap_laws.proofs.PutLemmas.{put_at_absent}
 
 -- What is inserted where an item was removed replaces it.
 pub insert_where_removed : {X : Type 0} (xs : List X) (i : ℕ) (y : X) → i < length xs → insert (remove xs i) i y ≡ slice_set xs i y

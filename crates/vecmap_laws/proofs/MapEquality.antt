@@ -1,16 +1,18 @@
--- The laws of the equality of maps. They hold of all lists of pairs, also with duplicate keys.
-use Rattle.std.specs.Prelude.{◌≡◌, ℕ, ◌+◌, Bool, true, false, ◌&&◌, ◌||◌, List, [], ◌∷◌, length, refl, ◌↔◌, IsTrue, Option, None, Some}
-use Rattle.std.specs.{Cmp.{IsEquivalence, both_ways, partial_equiv_from_equiv}, List.{list_any, Sorted.IsPermutation}, Map.keys_of}
-use Rattle.std.{specs.Option.option_eq, proofs.Common.{cond, sym, ap, ◌∙◌, arith, true≢false, inl, inr}}
-use Rattle.std.proofs.lemmas.{Bool.{and_from, and_parts, cases_Bool, or_parts}, List.Sorted.sum_by-IsPermutation}
-use Rattle.std.proofs.lemmas.Map.{Keys.{IsDistinct-head, IsDistinct-tail}, Steps.list_any_congr}
-use Rattle.vecmap_base.specs.Equality.{count, counts_agree, has_same_counts, same_pair}
-use Rattle.vecmap_base.specs.Pairs.{HasDistinctKeys, lookup}
-use Rattle.vecmap_base.proofs.DistinctLemmas.Absent.{none_equal}
-use Rattle.vecmap_base.proofs.EqualityLemmas.{Counts.{as_often, counts_from_test, many_cons, test_from_counts}, Maps.{counts_as_often, same_pair_laws}, Partial.{partial_map_equal_by_half, partial_map_lengths_differ}}
-use Rattle.vecmap_laws.{proofs.Lookups.{look, lookup_absent, lookup_congr}, specs.Agreement.{agrees, lookups_agree}}
--- For crates that name `vecmap` and the laws alone.
+-- The laws of the equality of maps. They hold of all lists of pairs, also with duplicate keys. A map is equal to
+-- itself, and to its clone if clones are equal to their originals.
+use Rattle.std.specs.{Cmp.{IsEquivalence, both_ways, partial_equiv_from_equiv, nat_eq_equiv}, List.{list_any, Sorted.IsPermutation}, Map.keys_of}
+use Rattle.std.specs.{Option.option_eq, Prelude.{ℕ, ◌+◌, false, ◌&&◌, ◌||◌, length, refl, ◌↔◌, IsTrue, Option, None, Some, nat_eq}}
+use Rattle.std.proofs.Common.{◌≡◌, Bool, true, List, [], ◌∷◌, cond, sym, ap, ◌∙◌, arith, true≢false, inl, inr}
+use Rattle.std.proofs.lemmas.{Bool.{and_from, and_parts, cases_Bool, or_parts}, Grind.common_steps, List.Sorted.sum_by-IsPermutation}
+use Rattle.std.proofs.lemmas.Map.{Entries.entries_from_clone, Keys.{IsDistinct-head, IsDistinct-tail}, Steps.list_any_congr}
+use Rattle.vecmap_base.specs.{Clones.ArePairClones, Equality.{count, counts_agree, has_same_counts, same_pair}, Pairs.{HasDistinctKeys, lookup}}
+use Rattle.vecmap_base.proofs.{DistinctLemmas.none_equal, EqualityLemmas.Counts.{as_often, counts_from_test, many_cons, test_from_counts}}
+use Rattle.vecmap_base.proofs.EqualityLemmas.Maps.{counts_as_often, same_pair_laws, map_equality_laws}
+use Rattle.vecmap_base.proofs.EqualityLemmas.Partial.{partial_map_equal_by_half, partial_map_lengths_differ}
+use Rattle.vecmap_laws.{specs.MapLaws.{agrees, lookups_agree}, proofs.LookupLemmas.{look, lookup_absent, lookup_congr}}
 pub use Rattle.vecmap_base.proofs.EqualityLemmas.Maps.{map_equality_laws}
+
+-- For crates that name `vecmap` and the laws alone.
 
 module _ {X : Type 0} (same : X → X → Bool) (o : IsEquivalence same) where
   -- The order of a list makes no difference.
@@ -121,3 +123,27 @@ module _ {K V : Type 0} (key : K → K → Bool) (value : V → V → Bool) (k :
   -- If `==` of values tells all values apart, each key has the same value, or none, in equal maps.
   pub lookups_of_equal : ((x y : V) → value x y ≡ true → x ≡ y) → (a b : List (K × V)) → IsTrue (has_same_counts key value a b) → HasDistinctKeys key a → HasDistinctKeys key b → (q : K) → lookup key a q ≡ lookup key b q
   lookups_of_equal same a b h d e q = same_options same (lookup key a q) (lookup key b q) ((equal_where_lookups_agree a b d e).0 h q)
+
+module _ {K V : Type 0} (key : K → K → Bool) (value : V → V → Bool) (k : IsEquivalence key) (v : IsEquivalence value) where
+  -- A map is equal to itself.
+  pub equal_to_itself : (l : List (K × V)) → has_same_counts key value l l ≡ true
+  equal_to_itself l = (map_equality_laws key value k v).refl l
+
+  module _ (R : K → K → Type 0) (S : V → V → Type 0) (same_keys : (x y : K) → R x y → key x y ≡ true) (same_values : (x y : V) → S x y → value x y ≡ true) where
+    clone_counts : (l m : List (K × V)) → ArePairClones R S l m → (x : K × V) → count key value l x ≡ count key value m x
+    clone_counts [] [] c x = grind (arith, common_steps, same_pair_laws, many_cons)
+    clone_counts [] (r ∷ rs) c x = grind (arith, common_steps, same_pair_laws, many_cons)
+    clone_counts (p ∷ ps) [] c x = grind (arith, common_steps, same_pair_laws, many_cons)
+    clone_counts (p ∷ ps) (r ∷ rs) c x = grind (arith, common_steps, same_pair_laws, many_cons, (clone_counts ps rs c.1 x))
+
+    -- Clones of equal keys and equal values make an equal map.
+    pub clones_equal : (l m : List (K × V)) → ArePairClones R S l m → has_same_counts key value l m ≡ true
+    clones_equal l m c = counts_as_often key value k v l m ∙ test_from_counts (same_pair key value) (same_pair_laws key value k v) l m (clone_counts l m c)
+
+-- Clones of numbers make the same list.
+pub same_clones : {K V : Type 0} (R : K → K → Type 0) (S : V → V → Type 0) → ((x y : K) → R x y → y ≡ x) → ((v w : V) → S v w → w ≡ v) → (l m : List (K × V)) → ArePairClones R S l m → m ≡ l
+same_clones R S = entries_from_clone R S
+
+-- A map of numbers is equal to itself.
+pub equal_to_itself_at_numbers : (l : List (ℕ × ℕ)) → has_same_counts nat_eq nat_eq l l ≡ true
+equal_to_itself_at_numbers = equal_to_itself nat_eq nat_eq nat_eq_equiv nat_eq_equiv

@@ -7,7 +7,7 @@ use Rattle.std.specs.{Cmp.IsEquivalence, Option.option_map_or}
 use Rattle.vecmap_base.proofs.PairsLemmas.{ByIndex.index_by_is, ByIndex.without_by_index, Puts.put_absent}
 use Rattle.vecmap_base.specs.{Items.swap_without, Pairs.{HasDistinctKeys, index_of, lookup, put, put_at, swap_without_key, without_key}}
 use Rattle.vecmap_laws.proofs.{AfterPuts.index_of_without_key, Inserted.{absent_first, index_none, insert_where_removed, without_key_at}}
-use Rattle.vecmap_laws.proofs.{Puts.{put_at_absent, put_at_present}, RemovalLemmas.passing_at}
+use Rattle.vecmap_laws.proofs.{PutLemmas.{put_at_absent, put_at_present}, TakenOut.passing_at}
 
 -- An index past the end is the end.
 insert_min : {X : Type 0} (xs : List X) (i : ℕ) (x : X) → insert xs (min i (length xs)) x ≡ insert xs i x

@@ -2,24 +2,23 @@
 use Rattle.std.specs.{Prelude.{◌≡◌, Bool, Err, List, Ok, OnErr, Result, []}, List.IsDistinct}
 use Rattle.std.proofs.{Common.{subst, sym}, lemmas.Map.Steps.lookup-le-sum}
 use Rattle.vecmap_base.specs.Pairs.{HasDistinctKeys}
-use Rattle.vecmap_base.proofs.DistinctLemmas.{Absent.distinct_none, Additions.{distinct_add, distinct_adds}}
-use Rattle.vecmap_base.proofs.ItemsLemmas.Members.{is_member_adds}
-use Rattle.vecmap_base.proofs.PairsLemmas.{Distinct.{distinct_keys_remove, distinct_put}, Keys.{keys_of_put, keys_of_puts}, Updates.distinct_put_key, Values.key_stays}
-use Rattle.vecmap_laws.proofs.AfterPuts.{index_of_congr, index_of_put, lookup_put_any, lookup_puts_distinct, lookup_without_any}
-use Rattle.vecmap_laws.proofs.{AlgebraLemmas.is_member_of_collected, AtTexts.{lookups_of_equal_texts, put_put_of_texts}}
+use Rattle.vecmap_base.proofs.{DistinctLemmas.{distinct_none, distinct_add, distinct_adds}, ItemsLemmas.Members.is_member_adds}
+use Rattle.vecmap_base.proofs.PairsLemmas.{Keys.{keys_of_put, keys_of_puts}, LookupsAfterChanges.{distinct_keys_remove, distinct_put}, Updates.distinct_put_key}
+use Rattle.vecmap_base.proofs.PairsLemmas.Values.{key_stays}
+use Rattle.vecmap_laws.proofs.AfterPuts.{index_of_congr, index_of_put, lookup_put_any, lookup_puts_distinct, lookup_without_any, index_by_take}
+use Rattle.vecmap_laws.proofs.AlgebraLemmas.{is_member_of_collected, number_parts_add}
 use Rattle.vecmap_laws.proofs.AtNumbers.{absent_among_numbers, lookup_written_at_of_numbers, lookups_of_equal_numbers, put_put_of_numbers, restored_of_numbers}
-use Rattle.vecmap_laws.proofs.CloneEquality.{clones_equal, equal_to_itself, equal_to_itself_at_numbers, same_clones}
-use Rattle.vecmap_laws.proofs.DistinctKeys.{distinct_keys_swap_without_key, distinct_keys_take, distinct_put_at, distinct_puts}
-use Rattle.vecmap_laws.proofs.{DistinctParts.{distinct_keys_drop, distinct_keys_filter}, SetRelations.number_parts_add}
-use Rattle.vecmap_laws.proofs.{EachPair.{all_without, filter_without, same_values}, Lookups.lookup_without_key_other}
-use Rattle.vecmap_laws.proofs.{EachValue.holds_after_put, ItemIndices.{item_index_add, slice_get_add}}
+use Rattle.vecmap_laws.proofs.AtTexts.{lookups_of_equal_texts, put_put_of_texts}
+use Rattle.vecmap_laws.proofs.DistinctKeys.{distinct_keys_swap_without_key, distinct_keys_take, distinct_put_at, distinct_puts, distinct_keys_drop, distinct_keys_filter}
+use Rattle.vecmap_laws.proofs.EachPair.{all_without, filter_without, same_values, holds_after_put}
 use Rattle.vecmap_laws.proofs.Finds.{distinct_keys_reverse, distinct_swapped, distinct_without_key, is_member_swap_without, is_member_without, lookup_drop, lookup_put_at_any, lookup_put_key_any, lookup_reverse, lookup_swap, lookup_swap_without_key, lookup_swapped, lookup_take, present}
-use Rattle.vecmap_laws.proofs.{ItemMembers.is_member_add, KeyIndices.index_by_take, Undone.undone_at_numbers}
-use Rattle.vecmap_laws.proofs.{LoopLemmas.keys_written, WriteLemmas.written_back}
-use Rattle.vecmap_laws.proofs.LoopPairs.{element_taken, is_key_of_numbers, key_taken, number_taken, taken_matches}
-use Rattle.vecmap_laws.proofs.{NewKeys.{absent_among, absent_before, new_above}, Queries.lookup_put_any_query}
-use Rattle.vecmap_laws.proofs.{Puts.{put_put, puts_restore}, Sums.{sum_put_of_numbers, sum_without_of_numbers}}
+use Rattle.vecmap_laws.proofs.ItemLemmas.{item_index_add, slice_get_add, is_member_add}
+use Rattle.vecmap_laws.proofs.LookupLemmas.{lookup_without_key_other, absent_among, absent_before, new_above}
+use Rattle.vecmap_laws.proofs.LoopLemmas.{keys_written, element_taken, is_key_of_numbers, key_taken, number_taken, taken_matches}
+use Rattle.vecmap_laws.proofs.{MapEquality.{clones_equal, equal_to_itself, equal_to_itself_at_numbers, same_clones}, PutLemmas.{put_put, puts_restore}}
+use Rattle.vecmap_laws.proofs.QueryLemmas.{written_back, lookup_put_any_query}
 use Rattle.vecmap_laws.proofs.SearchedMaps.{inserted_new, search_finds, search_finds_at_numbers, sorted_after, sorted_after_at_numbers}
+use Rattle.vecmap_laws.proofs.{Sums.{sum_put_of_numbers, sum_without_of_numbers}, Undone.undone_at_numbers}
 pub use Rattle.vecmap_laws.proofs.AtNumbers.{lookups_at_numbers, members_at_numbers}
 pub use Rattle.vecmap_laws.proofs.AtTexts.{texts}
 

@@ -7,7 +7,7 @@ use Rattle.std.specs.{Ordering.is_eq, Ordering.ordering_index, Ordering.ordering
 use Rattle.std.specs.declared.cmp.Ordering.TheVariants.{Equal, Greater, Less}
 use Rattle.vecmap_base.proofs.{IndexLemmas.{is_some_position, position_none}, PairsLemmas.ByIndex.index_by_is}
 use Rattle.vecmap_base.proofs.ItemsLemmas.Sorted.{comparisons_rise, none_at_partition, sorted_insert}
-use Rattle.vecmap_laws.proofs.{Puts.put_at_absent}
+use Rattle.vecmap_laws.proofs.PutLemmas.{put_at_absent}
 use Rattle.vecmap_base.specs.Pairs.{index_of, put_at}
 
 module _ {K V : Type 0} (eq : K → K → Bool) (cmp : K → K → Ordering) (o : IsTotalOrder cmp) (matches : (x y : K) → eq x y ≡ is_eq (cmp x y)) where

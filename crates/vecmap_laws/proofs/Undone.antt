@@ -4,8 +4,8 @@ use Rattle.std.proofs.lemmas.{List.set-get_or, Option.get_or_from_slice_get, Opt
 use Rattle.std.specs.{Cmp.{IsEquivalence, nat_eq_equiv}, Option.option_map_or}
 use Rattle.vecmap_base.proofs.MoveLemmas.{moved_item, moved_removed}
 use Rattle.vecmap_base.specs.{Items.moved, Pairs.{HasDistinctKeys, lookup, put, put_at, without_key}}
-use Rattle.vecmap_laws.proofs.{AfterPuts.put_same, OtherPairs.{without_not_found, without_put_at}, Puts.put_put}
-use Rattle.vecmap_laws.proofs.Inserted.{insert_where_removed, put_at_moved}
+use Rattle.vecmap_laws.proofs.{AfterPuts.put_same, Inserted.{insert_where_removed, put_at_moved}, OtherPairs.{without_not_found, without_put_at}}
+use Rattle.vecmap_laws.proofs.PutLemmas.{put_put}
 
 -- An item that has moved, moved back.
 pub moved_back : {X : Type 0} (xs : List X) (from to : ℕ) → from < length xs → to < length xs → moved (moved xs from to) to from ≡ xs

@@ -1,5 +1,3 @@
-pub mod Agreement
 pub mod Algebra
-pub mod FirstValue
+pub mod MapLaws
 pub mod Pulls
-pub mod TextPairs

@@ -2,13 +2,13 @@
 ghost use Rattle.std.specs.{Cmp.{IsEquivalence, IsTotalOrder}, Ordering.is_eq, List.IsDistinct, Map.{IsKeyTest, keys_of}};
 ghost use Rattle.std.specs.Prelude.{◌≡◌, ◌≤◌, ◌&&◌, ℕ, List, String, bytes_eq, false, length, string_bytes, string_eq, true};
 ghost use Rattle.vecmap_base.specs.{Pairs.{HasDistinctKeys, has_text}, Comparisons.{comparisons, cost}};
-ghost use Rattle.vecmap_laws.specs.TextPairs.{both_equal, has_texts};
+ghost use Rattle.vecmap_laws.specs.MapLaws.{both_equal, has_texts};
 ghost use Rattle.std.specs.declared.alloc.Global.{Global};
 
 /// Bounds the number of comparisons that a removal of duplicates makes.
 ///
 /// It is at most one comparison for each two elements, and exactly as many if all elements are distinct.
-#[tactic(auto, using(vecmap_base::proofs::DuplicatesLemmas::Comparisons::comparisons_at_most, crate::proofs::ComparisonLemmas::comparisons_distinct))]
+#[tactic(auto, using(vecmap_base::proofs::DuplicatesLemmas::ComparisonCounts::comparisons_at_most, crate::proofs::ComparisonLemmas::comparisons_distinct))]
 pub fn comparisons_are_bounded<T: Eq>()
     ensures at_most { (xs : List T) → comparisons T.eq xs ≤ cost (length xs) }
     ensures exact_if_distinct { (xs : List T) → IsDistinct T.eq xs
@@ -16,7 +16,7 @@ pub fn comparisons_are_bounded<T: Eq>()
 {}
 
 /// Like [`comparisons_are_bounded`], for pairs, whose keys are compared.
-#[tactic(auto, using(vecmap_base::proofs::DuplicatesLemmas::Comparisons::key_comparisons_at_most, crate::proofs::ComparisonLemmas::key_comparisons_distinct))]
+#[tactic(auto, using(vecmap_base::proofs::DuplicatesLemmas::ComparisonCounts::key_comparisons_at_most, crate::proofs::ComparisonLemmas::key_comparisons_distinct))]
 pub fn key_comparisons_are_bounded<K: Eq, V>()
     ensures at_most { (l : List (K × V)) → comparisons K.eq (keys_of l) ≤ cost (length l) }
     ensures exact_if_distinct { (l : List (K × V)) → HasDistinctKeys K.eq l

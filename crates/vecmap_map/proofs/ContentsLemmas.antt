@@ -1,11 +1,12 @@
--- What a borrow of the pairs leaves, and what a call leaves that appends a pair if a query matches nothing.
+-- What a borrow of the pairs leaves, what a call leaves that appends a pair if a query matches nothing, and what is in
+-- a map of clones.
 use Rattle.std.specs.{Cmp.IsEquivalence, List.refill, Map.IsKeyTest}
-use Rattle.std.proofs.Common.{arith, ◌≡◌, ◌∙◌, ◌++◌, ◌+◌, ℕ, Bool, true, List, [], ◌∷◌, None, Some, ap, if◌then◌else◌, is_some, length, refl, sym, true≢false, unwrap_or}
-use Rattle.std.proofs.lemmas.{List.length-append, Option.{none-some, slice_get_within}}
-use Rattle.vecmap_base.specs.Pairs.{index_by, lookup_by}
-use Rattle.vecmap_base.proofs.IndexLemmas.{slice_get_last}
-use Rattle.vecmap_base.proofs.PairsLemmas.{AtIndices.{index_stays, match_at}, ByIndex.{index_by_appended, is_some_lookup_by}, Parts.lookup_by_append, Updates.{updates_appended_found, updates_matched, updates_written_at}}
-use Rattle.vecmap_map.specs.Contents.{Contents, FindsOrAppends, with_entries, with_written}
+use Rattle.std.proofs.Common.{arith, ◌≡◌, ◌∙◌, ◌++◌, ◌+◌, ℕ, Bool, true, List, [], ◌∷◌, None, Some, ap, if◌then◌else◌, is_some, length, refl, sym, true≢false, unwrap_or, ◌≤◌}
+use Rattle.std.proofs.lemmas.{List.length-append, Map.Entries.entries_from_clone, Option.{none-some, slice_get_within}, Slice.Zip.AllZip-long}
+use Rattle.vecmap_base.specs.{Clones.{ArePairClones, IsPairClone}, Pairs.{index_by, lookup_by, puts}}
+use Rattle.vecmap_base.proofs.{IndexLemmas.slice_get_last, PairsLemmas.{AtIndices.{index_stays, match_at}, ByIndex.{index_by_appended, is_some_lookup_by}}}
+use Rattle.vecmap_base.proofs.PairsLemmas.{ManyPairs.{lookup_by_append, makes_pairs}, Updates.{updates_appended_found, updates_matched, updates_written_at}}
+use Rattle.vecmap_map.specs.{Contents.{Contents, FindsOrAppends, with_entries, with_written}, MapBulk.MakesClones}
 
 -- A map whose vector of n pairs was borrowed is `m` with what was last written.
 pub refilled_back : {K V : Type 0} (v m : Contents K V) → v ≡ m → (n : ℕ) → n ≡ length v.entries → (w : List (K × V)) → with_entries v (refill n v.entries w) ≡ with_written m w
@@ -54,3 +55,14 @@ module _ {K V : Type 0} (eq : K → K → Bool) (o : IsEquivalence eq) (test : K
         updates = updates;
         written = λ v. updates_written_at eq o test respects old.entries new.entries (lookup_by test new.entries) i v updates at;
       }
+
+pub makes_clones : {K V : Type 0} (eq : K → K → Bool) (o : IsEquivalence eq) (key : K → K → Type 0) (value : V → V → Type 0) (pairs : List (K × V)) (m : Contents K V) (clones : List (K × V)) → ArePairClones key value pairs clones → m.entries ≡ puts eq [] clones → length pairs ≤ m.capacity → MakesClones eq key value pairs m
+makes_clones eq o key value pairs m clones are e room =
+    let made = makes_pairs eq o clones m.entries e in
+    record {
+      entries = (clones, are, e);
+      same = λ keys values. makes_pairs eq o pairs m.entries (e ∙ ap (puts eq []) (entries_from_clone key value keys values pairs clones are));
+      distinct = made.distinct;
+      len = omega (arith, made.len, AllZip-long (IsPairClone key value) pairs clones are);
+      capacity = room;
+    }

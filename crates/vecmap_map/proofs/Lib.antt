@@ -1,4 +1,3 @@
 pub mod EntryLemmas
 mod LentLemmas
 pub mod ContentsLemmas
-pub mod MadeLemmas

@@ -1,6 +1,6 @@
 -- What contracts see of the drain of a map.
 use Rattle.std.specs.{Prelude.{◌≡◌, ℕ, List, Option, drop, take}, Borrow.GName, Vec.Iter.reverse_if}
-use Rattle.vecmap_base.specs.Drain.{DrainsFirst, DrainsLast}
+use Rattle.vecmap_base.specs.Drains.{DrainsFirst, DrainsLast}
 use Rattle.vecmap_map.specs.declared.drain.Drain.{Drain}
 
 module _ {K V : Type 0} where

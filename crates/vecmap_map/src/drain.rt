@@ -4,7 +4,7 @@
 //! drain is dropped.
 ghost use Rattle.std.specs.{Prelude.{◌≡◌, ◌<◌, ◌≤◌, ◌^◌, Bool, length, slice_range}, Bound.{end_index, start_index}, Iterator.at_most, List.remove_range};
 ghost use Rattle.std.specs.Iterator.Runs.{YieldsInOrder, YieldsInReverse};
-ghost use Rattle.vecmap_base.specs.{Drain.KeepsAlong, Iterators.HintsExactly, Lookups.KeepsFront, Pairs.HasDistinctKeys};
+ghost use Rattle.vecmap_base.specs.{Drains.KeepsAlong, Iterators.HintsExactly, Lookups.KeepsFront, Pairs.HasDistinctKeys};
 ghost use Rattle.vecmap_base.specs.Ranges.{AreEndsWithin, IsRangeWithin, items_between, without_between};
 ghost use Rattle.vecmap_map.specs.Drain.{DrainKeeps, DrainNext, DrainNextBack, drain_capacity, drain_kept, drain_lender, drain_rest};
 
@@ -121,7 +121,7 @@ impl<'a, K: Drop, V: Drop> Drain<'a, K, V> {
     /// Drain::over(&mut map, 1, 3).next() // Some(('b', 2))
     /// map.as_slice() // [('a', 1)]
     /// ```
-    #[tactic(auto, using(vecmap_base::proofs::DrainRuns::drains))]
+    #[tactic(auto, using(vecmap_base::proofs::DrainLemmas::drains))]
     pub fn over(map: &'a mut VecMap<K, V>, start: usize, end: usize) -> Drain<'a, K, V>
         requires within { IsRangeWithin start end (length map.old.entries) }
         ensures rest { drain_rest result ≡ slice_range map.old.entries start end }
@@ -154,7 +154,7 @@ impl<'a, K: Drop, V: Drop> Drain<'a, K, V> {
 
 impl<'a, K, V> Drain<'a, K, V> {
     // Reverses the remaining pairs unless they are in the wanted order.
-    #[tactic(auto, using(vecmap_base::proofs::DrainRuns::drains))]
+    #[tactic(auto, using(vecmap_base::proofs::DrainLemmas::drains))]
     fn set_reversed(&mut self, reversed: bool)
         requires { self.old.keep ≤ length self.old.map.now.entries }
         ensures ordered { self.new.reversed ≡ reversed }
@@ -195,7 +195,7 @@ impl<'a, K: Drop, V: Drop> Iterator for Drain<'a, K, V> {
 
     ghost remaining = { λ s. at_most (length (drain_rest s)) };
 
-    #[tactic(auto, using(vecmap_base::proofs::DrainRuns::drains))]
+    #[tactic(auto, using(vecmap_base::proofs::DrainLemmas::drains))]
     fn next(&mut self) -> Option<(K, V)> {
         if self.map.len() <= self.keep {
             return None;
@@ -217,7 +217,7 @@ impl<'a, K: Drop, V: Drop> Iterator for Drain<'a, K, V> {
 impl<'a, K: Drop, V: Drop> DoubleEndedIterator for Drain<'a, K, V> {
     ghost next_back_gives = { DrainNextBack };
 
-    #[tactic(auto, using(vecmap_base::proofs::DrainRuns::drains))]
+    #[tactic(auto, using(vecmap_base::proofs::DrainLemmas::drains))]
     fn next_back(&mut self) -> Option<(K, V)> {
         if self.map.len() <= self.keep {
             return None;
@@ -230,7 +230,7 @@ impl<'a, K: Drop, V: Drop> DoubleEndedIterator for Drain<'a, K, V> {
 
 impl<'a, K: Drop, V: Drop> ExactSizeIterator for Drain<'a, K, V> {
     /// Returns the number of remaining pairs.
-    #[tactic(auto, using(vecmap_base::proofs::DrainRuns::drains))]
+    #[tactic(auto, using(vecmap_base::proofs::DrainLemmas::drains))]
     fn len(&self) -> usize {
         self.map.len().saturating_sub(self.keep)
     }

@@ -15,7 +15,7 @@ impl<K, V> VecMap<K, V> {
     /// let map: VecMap<char, u32> = VecMap::new(alloc);
     /// (map.len(), map.capacity()) // (0, 0)
     /// ```
-    #[tactic(auto, using(vecmap_base::proofs::DistinctLemmas::Absent::distinct_none))]
+    #[tactic(auto, using(vecmap_base::proofs::DistinctLemmas::distinct_none))]
     pub fn new(alloc: Global) -> VecMap<K, V>
         ensures list { result.entries ≡ [] }
         ensures distinct { (eq : K → K → Bool) → HasDistinctKeys eq result.entries }
@@ -45,7 +45,7 @@ impl<K, V> VecMap<K, V> {
     /// map.is_empty() // true
     /// 4 <= map.capacity() // true
     /// ```
-    #[tactic(auto, using(vecmap_base::proofs::DistinctLemmas::Absent::distinct_none))]
+    #[tactic(auto, using(vecmap_base::proofs::DistinctLemmas::distinct_none))]
     pub fn with_capacity(alloc: Global, capacity: usize) -> Result<VecMap<K, V>, AllocError>
         ensures list { IfOk result (λ map. map.entries ≡ []) }
         ensures distinct { IfOk result (λ map. (eq : K → K → Bool)

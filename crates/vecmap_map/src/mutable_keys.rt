@@ -1,7 +1,7 @@
 //! Calls that return mutable references to keys.
 ghost use Rattle.std.specs.{Prelude.{◌≡◌, ◌<◌, ◌↔◌, IfSome, IsSome, List, Option, length, option_map, slice_get}, Borrow.sem};
 ghost use Rattle.std.specs.Map.{keys_of};
-ghost use Rattle.vecmap_base.specs.Asked.{CallableAtPairMut, CallableOnEach, CallsAtPairMut};
+ghost use Rattle.vecmap_base.specs.FnMutCalls.{CallableAtPairMut, CallableOnEach, CallsAtPairMut};
 ghost use Rattle.vecmap_base.specs.Iterators.{ShowsAllOf, deref_both_mut, deref_mut, iter_mut2_name, iter_mut2_rest, keys_mut_name, keys_mut_rest};
 ghost use Rattle.vecmap_base.specs.{Kept.{KeepsKeys, Kept, Retains, RetainsPairs}, Pairs.{index_by, lookup_pair_by}};
 ghost use Rattle.vecmap_map.specs.Lends.{lends_pairs, lends_parts, lends_slice};

@@ -1,8 +1,8 @@
 //! Reversing, moving, swapping and sorting the pairs.
 ghost use Rattle.std.specs.{Prelude.{◌≡◌, ◌<◌, ◌≤◌, Bool, IsOk, OnErr, OnOk, length}, List.Sorted.{IsSorted, IsSortedByKey, IsStableByKey}};
 ghost use Rattle.std.specs.{Map.keys_of, Ordering.is_lt};
+ghost use Rattle.vecmap_base.specs.FnCalls.{ComparesPairsAs, IsSortedByPairClosure, IsSortedByPairKey, IsStableByPairClosure, IsStableByPairKey, ReturnsOnPair};
 ghost use Rattle.vecmap_base.specs.{Lookups.IsReordered, Reorders.{MovesPair, ReversesPairs, SwapsPairs}};
-ghost use Rattle.vecmap_base.specs.Orders.{ComparesPairsAs, IsSortedByPairClosure, IsSortedByPairKey, IsStableByPairClosure, IsStableByPairKey, ReturnsOnPair};
 
 use crate::VecMap;
 use std::alloc::AllocError;

@@ -1,7 +1,8 @@
 //! Removal of pairs.
 ghost use Rattle.std.specs.{Cmp.IsEquivalence, Prelude.{◌≡◌, ◌-◌, ◌<◌, ◌≤◌, Bool, IfNone, IfOk, IfSome, IsOk, None, OnErr, Some, String, [], false, length, remove, string_eq, true}, Map.IsKeyTest};
-ghost use Rattle.vecmap_base.specs.{Asked.{CallableAtPair, CallableOnEach, CallsAtPair}, Kept.{RetainsPairs, ReturnsAtValue}};
-ghost use Rattle.vecmap_base.specs.{Indices.{MovesIndex, ShiftsIndices}, Items.swap_without, Lookups.KeepsFront, Pairs.{HasDistinctKeys, has_text, index_by, lookup_by, swap_without_by, without_by}};
+ghost use Rattle.vecmap_base.specs.{FnMutCalls.{CallableAtPair, CallableOnEach, CallsAtPair}, Indices.{MovesIndex, ShiftsIndices}, Items.swap_without};
+ghost use Rattle.vecmap_base.specs.{Kept.{RetainsPairs, ReturnsAtValue}, Lookups.KeepsFront};
+ghost use Rattle.vecmap_base.specs.Pairs.{HasDistinctKeys, has_text, index_by, lookup_by, swap_without_by, without_by};
 ghost use Rattle.vecmap_base.specs.Removals.{FindsPair, RemovesAt, RemovesBy, RemovesLast, SplitsAt};
 
 use crate::VecMap;
@@ -18,7 +19,7 @@ impl<K, V> VecMap<K, V> {
     /// map.clear();
     /// map.is_empty() // true
     /// ```
-    #[tactic(auto, using(vecmap_base::proofs::DistinctLemmas::Absent::distinct_none))]
+    #[tactic(auto, using(vecmap_base::proofs::DistinctLemmas::distinct_none))]
     pub fn clear(&mut self)
     where
         K: Drop,

@@ -2,7 +2,7 @@
 ghost use Rattle.std.specs.Prelude.{◌≡◌, ◌<◌, ◌≤◌, Bool, Contains, IfErr, IfOk, List, Some, false, insert, is_ok, is_some, length, true};
 ghost use Rattle.std.specs.{List.{All, HoldsAt}, Map.keys_of, declared.cmp.Ordering.Ordering};
 ghost use Rattle.std.specs.List.Sorted.{IsBinarySearchResult, IsPartitionPoint, IsPartitionedBy, IsSearchInRange, IsSorted, IsSortedByKey};
-ghost use Rattle.vecmap_base.specs.{Orders.{CallableOnPair, ReturnsOnPairs}, Pairs.{HasDistinctKeys, index_of, lookup, value_at}};
+ghost use Rattle.vecmap_base.specs.{FnCalls.{CallableOnPair, ReturnsOnPairs}, Pairs.{HasDistinctKeys, index_of, lookup, value_at}};
 
 use crate::VecMap;
 use std::cmp::Ordering;

@@ -6,7 +6,7 @@ use Rattle.std.proofs.{lemmas.Bool.Decides.nat_tests, lemmas.Grind.{common_steps
 use Rattle.std.proofs.lemmas.List.Elements.{All-head, All-nil, All-push, All-tail, All-weaker}
 use Rattle.std.proofs.lemmas.List.Splits.{slice_split_at, slice_split_none}
 use Rattle.std.specs.{Io.KnownBytes.{Appends, Consumes, Keeps}, List.flat_map}
-use Rattle.vecmap_run.specs.{Lines.{all_lines, ended_lines, pieces_of, within_limit, without_empty_last}, Steps.Entries}
+use Rattle.vecmap_run.specs.{CommandSteps.Entries, Lines.{all_lines, ended_lines, pieces_of, within_limit, without_empty_last}}
 use Rattle.vecmap_run.specs.Service.{Answers, AnswersLine, GoesOn, HasNoBreak, HasServed, Serves, Splits}
 
 -- One more line, with its answer.

@@ -4,7 +4,7 @@ use Rattle.std.proofs.Common.{arith, ◌≡◌, ℕ, ℤ, Bool, List, [], ◌∷
 use Rattle.std.proofs.{lemmas.Option.none-some, lemmas.Slice.Eq.bytes_eq-Decides}
 use Rattle.vecmap.specs.Pairs.{has_text, index_of, lookup, lookup_by, put}
 use Rattle.vecmap_base.proofs.{PairsLemmas.ByIndex.{is_some_lookup_by, put_by_index, set_value_by_index}, PairsLemmas.Puts.put_stored}
-use Rattle.vecmap_run.specs.Steps.{Entries}
+use Rattle.vecmap_run.specs.CommandSteps.{Entries}
 
 -- If a text finds a value, a stored key has this text.
 pub stored_key : (text : List ℕ) (l : Entries) (v : ℤ) → lookup_by (has_text text) l ≡ Some v → (key : String Global) × (string_bytes key ≡ text)

@@ -1,6 +1,5 @@
-pub mod Buffer
+pub mod CommandSteps
 pub mod Grammar
 pub mod Lines
 pub mod Print
 pub mod Service
-pub mod Steps

@@ -1,8 +1,8 @@
--- The text that an answer prints.
-use Rattle.std.specs.{Prelude.{ℕ, List, [], ◌∷◌, ◌++◌, None, Some, codes, string_bytes, ℤ, String}, Fmt.{decimal, signed_decimal}}
-use Rattle.std.specs.{List.flat_map, declared.alloc.Global.Global}
-use Rattle.vecmap_run.specs.{Steps.Entries, declared.answer.Answer.Answer}
-use Rattle.vecmap_run.specs.declared.answer.Answer.TheVariants.{Fault, Moved, NoMemory, Number, OutOfRange, Pairs, Place, Value}
+-- The text that an answer prints, and what a buffer and its writer hold together.
+use Rattle.std.specs.{Fmt.{decimal, signed_decimal}, Io.KnownBytes.append_known, List.flat_map}
+use Rattle.std.specs.{Prelude.{ℕ, List, [], ◌∷◌, ◌++◌, None, Some, codes, string_bytes, ℤ, String, Option}, declared.alloc.Global.Global}
+use Rattle.vecmap_run.specs.{CommandSteps.Entries, declared.answer.Answer.Answer}
+use Rattle.vecmap_run.specs.declared.{answer.Answer.TheVariants.{Fault, Moved, NoMemory, Number, OutOfRange, Pairs, Place, Value}, buffer.Buffer.Buffer}
 
 -- A key, `=` (61) and its value.
 abbrev pub printed_pair : String Global × ℤ → List ℕ
@@ -27,3 +27,7 @@ printed Pairs pairs = printed_pairs pairs
 printed Fault pairs = codes "fault"
 printed OutOfRange pairs = codes "range"
 printed NoMemory pairs = codes "memory"
+
+-- The writer's bytes and then the gathered ones, or `None` if the writer's are not known.
+abbrev pub buffer_bytes : {W : Type 0} → (W → Option (List ℕ)) → Buffer W → Option (List ℕ)
+buffer_bytes contents buffer = append_known (contents buffer.writer.now) buffer.gathered

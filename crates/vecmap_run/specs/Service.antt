@@ -1,7 +1,7 @@
 -- What the program writes for what it reads.
 use Rattle.std.specs.{Prelude.{◌≡◌, ◌≢◌, ℕ, ◌⊎◌, All, List, [], ◌∷◌, ◌++◌, Option}, Io.KnownBytes.{Appends, Consumes}, List.flat_map}
-use Rattle.vecmap_run.specs.{Grammar.Says, Lines.within_limit, Print.printed, Steps.{Entries, Step}, declared.answer.Answer.Answer}
-use Rattle.vecmap_run.specs.{declared.answer.Answer.TheVariants.Fault, declared.command.Command.Command}
+use Rattle.vecmap_run.specs.{CommandSteps.{Entries, Step}, Grammar.Says, Lines.within_limit, Print.printed, declared.answer.Answer.{Answer, TheVariants.Fault}}
+use Rattle.vecmap_run.specs.declared.command.Command.{Command}
 
 -- It answers the command of the line, or is `Fault` if the line is no command.
 -- This answer is allowed for the line, and it changes `old` to `new`.

@@ -1,7 +1,7 @@
 //! The answer to each command.
 ghost use Rattle.std.specs.Prelude.{◌≡◌, List, None, OnErr, OnOk, option_copied, ℕ};
 ghost use Rattle.vecmap.specs.Pairs.{has_text, lookup_by};
-ghost use Rattle.vecmap_run.specs.{Lines.within_limit, Service.MayAnswer, Steps.{Adds, Inserts, InsertsPairAt, OrInserts, Step}};
+ghost use Rattle.vecmap_run.specs.{CommandSteps.{Adds, Inserts, InsertsPairAt, OrInserts, Step}, Lines.within_limit, Service.MayAnswer};
 
 use crate::command::{Command, parse};
 use std::alloc::{AllocError, Global};

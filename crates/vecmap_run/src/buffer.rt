@@ -1,7 +1,7 @@
 //! A buffer in front of a writer, so that a short answer needs one write. Unlike std's `BufWriter`, it allocates
 //! nothing: the program cannot run out of memory before it reads a line.
 ghost use Rattle.std.specs.{Io.KnownBytes.Appends, Prelude.{◌≡◌, ◌∷◌, [], OnOk}};
-ghost use Rattle.vecmap_run.specs.Buffer.{buffer_bytes};
+ghost use Rattle.vecmap_run.specs.Print.{buffer_bytes};
 
 use crate::bytes::Bytes;
 use std::fmt;

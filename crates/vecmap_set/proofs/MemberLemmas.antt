@@ -4,11 +4,10 @@ use Rattle.std.proofs.Common.{◌≡◌, ◌∙◌, ◌+◌, ◌++◌, ◌<◌, 
 use Rattle.std.proofs.{Math.Seq.take-append_seam}
 use Rattle.std.proofs.lemmas.{Bool.or_right, List.append-nil, List.append_assoc, List.Sums.fold-append, Map.Made.length-le_from_is_member}
 use Rattle.vecmap_base.specs.{Clones.AreClones, Items.{add, adds}}
-use Rattle.vecmap_base.proofs.{DistinctLemmas.Absent.{distinct_none, none_before}, DistinctLemmas.Additions.{distinct_adds, distinct_append}}
-use Rattle.vecmap_base.proofs.EqualityLemmas.{Relations.{apart_if_none_shared, both_empty_turned}, Sets.same_items}
-use Rattle.vecmap_base.proofs.{ItemsLemmas.Additions.{add_present, adds_apart}, ItemsLemmas.Changes.is_member_clones, ItemsLemmas.Members.is_member_adds}
-use Rattle.vecmap_set.specs.SetBulk.{AddsClones, AddsItems, CopiesItems, JoinsItems}
-use Rattle.vecmap_set.proofs.{IndexLemmas.indices_appended, SetLemmas.distinct_clones_of}
+use Rattle.vecmap_base.proofs.DistinctLemmas.{distinct_none, none_before, distinct_adds, distinct_append}
+use Rattle.vecmap_base.proofs.{EqualityLemmas.Sets.{apart_if_none_shared, both_empty_turned, same_items}, ItemsLemmas.Additions.{add_present, adds_apart}}
+use Rattle.vecmap_base.proofs.ItemsLemmas.{Changes.is_member_clones, Members.is_member_adds}
+use Rattle.vecmap_set.{specs.SetBulk.{AddsClones, AddsItems, CopiesItems, JoinsItems}, proofs.{SetIndexLemmas.indices_appended, SetLemmas.distinct_clones_of}}
 
 -- Clones are as many as their originals.
 pub length_of_clones : {T : Type 0} (C : T → T → Type 0) (xs ys : List T) → AreClones C xs ys → length ys ≡ length xs

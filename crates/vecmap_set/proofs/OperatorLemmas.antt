@@ -6,7 +6,7 @@ use Rattle.vecmap_base.specs.{Clones.AreClones, Items.both, Items.only}
 use Rattle.vecmap_base.proofs.ItemsLemmas.Changes.{is_member_clones}
 use Rattle.vecmap_set.specs.Operators.{CombinesMembers, DrainsIntoClones, symmetric_difference_of, union_of}
 use Rattle.vecmap_set.proofs.{MemberLemmas.length_of_clones, SetLemmas.{by_queries, distinct_clones_of}}
-pub use Rattle.vecmap_base.proofs.EqualityLemmas.Relations.{distinct_both, distinct_only, distinct_symmetric_difference, distinct_union, is_member_both, is_member_only}
+pub use Rattle.vecmap_base.proofs.EqualityLemmas.Sets.{distinct_both, distinct_only, distinct_symmetric_difference, distinct_union, is_member_both, is_member_only}
 
 module _ {S T : Type 0} (steps : S → Option (Bor T) → S → Type 0) (rest : S → List T) where
   taken : ((s : S) (r : Option (Bor T)) (t : S) → steps s r t → YieldsFirstRef rest s r t) → (s t : S) (items : List (Bor T)) → Yields steps s items t → rest s ≡ map deref items ++ rest t

@@ -4,8 +4,8 @@ use Rattle.std.proofs.Common.{◌≡◌, ◌-◌, ◌<◌, ℕ, Bool, List, arit
 use Rattle.std.proofs.lemmas.List.Sorted.{IsPermutation-reverse, IsPermutation-swap, length_permutation, list_any-IsPermutation}
 use Rattle.vecmap_base.{specs.Items.{IsReorderedItems, moved}, proofs.EqualityLemmas.Sets.same_items}
 use Rattle.vecmap_base.proofs.MoveLemmas.{at_reversed, moved_item, moved_other, swapped_item, swapped_item_back, swapped_other}
-use Rattle.vecmap_set.{specs.Reorders.{MovesItem, ReversesItems, SwapsItems}, proofs.IndexLemmas.index_moved}
-pub use Rattle.vecmap_base.proofs.DistinctLemmas.Order.{distinct_rearranged, distinct_reverse, distinct_swap}
+use Rattle.vecmap_set.{specs.SetReorders.{MovesItem, ReversesItems, SwapsItems}, proofs.SetIndexLemmas.index_moved}
+pub use Rattle.vecmap_base.proofs.DistinctLemmas.{distinct_rearranged, distinct_reverse, distinct_swap}
 
 pub items_reordered : {T : Type 0} (s r : List T) → IsPermutation s r → IsReorderedItems s r
 items_reordered s r p = grind (arith, list_any-IsPermutation, length_permutation, same_items)

@@ -5,9 +5,9 @@ use Rattle.std.specs.{Cmp.IsEquivalence, List.{IsDistinct, list_any}, Map.IsKeyT
 use Rattle.std.proofs.lemmas.List.Elements.{Contains-append_left, Contains-append_right, Contains-push}
 use Rattle.std.proofs.lemmas.{Bool.cases_Bool, List.Sorted.IsPermutation-reverse, Map.Keys.IsDistinct-push}
 use Rattle.vecmap_base.specs.{Clones.AreClones, Equality.is_within, Items.both}
-use Rattle.vecmap_base.proofs.{EqualityLemmas.Relations.apart_if_none_shared, PairsLemmas.Lookups.compares_with}
-use Rattle.vecmap_base.proofs.EqualityLemmas.Sets.{set_equal_by_half, set_lengths_differ, within_back, within_from_test}
-use Rattle.vecmap_base.proofs.DistinctLemmas.{Absent.distinct_none, Additions.distinct_adds, Clones.distinct_clones, Order.distinct_tail, Removals.distinct_drop, Removals.distinct_front, Removals.distinct_take}
+use Rattle.vecmap_base.proofs.DistinctLemmas.{distinct_none, distinct_adds, distinct_clones, distinct_tail, distinct_drop, distinct_front, distinct_take}
+use Rattle.vecmap_base.proofs.EqualityLemmas.Sets.{apart_if_none_shared, set_equal_by_half, set_lengths_differ, within_back, within_from_test}
+use Rattle.vecmap_base.proofs.PairsLemmas.LookupsAfterChanges.{compares_with}
 use Rattle.vecmap_set.specs.SetBulk.{HaveSameItems}
 
 module _ {T : Type 0} (eq : T → T → Bool) where

@@ -2,7 +2,7 @@
 use Rattle.std.specs.Prelude.{◌≡◌, ◌+◌, ◌≤◌, Bool, Contains, IfOk, IsTrue, List, ◌++◌, Option, Result, false, length, map, true}
 use Rattle.std.specs.{Borrow.Bor, Iterator.Drains, List.{IsDistinct, list_any}, Map.IsKeyTest, Map.Iter.deref, Set.is_member}
 use Rattle.vecmap_base.specs.{Clones.AreClones, Items.only}
-use Rattle.vecmap_set.specs.Contents.{Contents}
+use Rattle.vecmap_set.specs.SetContents.{Contents}
 
 module _ {T : Type 0} (eq : T → T → Bool) where
   -- Example: `union_of nat_eq [1, 2] [3, 2] ≡ [1, 2, 3]`.

@@ -4,7 +4,7 @@
 use Rattle.std.specs.Prelude.{◌≡◌, ◌+◌, ◌++◌, ◌<◌, ◌≤◌, ◌||◌, Bool, Contains, IsTrue, List, OnErr, OnOk, Option, Result, [], length, map}
 use Rattle.std.specs.{Iterator.Count, List.{IsDistinct, list_any}, Map.IsKeyTest, Set.is_member}
 use Rattle.vecmap_base.specs.{Bulk.{HasRoomForAll, StopsAt}, Clones.AreClones, Equality.has_same_items, Items.{adds, both}}
-use Rattle.vecmap_set.specs.{Contents.{Contents, HasRoom, Refuses}, Indices.KeepsMatchIndices}
+use Rattle.vecmap_set.specs.{SetContents.{Contents, HasRoom, Refuses}, SetIndices.KeepsMatchIndices}
 
 module _ {T U S A E : Type 0} (becomes : U → S → Type 0) (steps : S → Option A → S → Type 0) (left : S → Count) where
   -- Example: of `2` on a full `[1]`, if allocation fails: the same set.

@@ -2,8 +2,8 @@
 ghost use Rattle.std.specs.Prelude.{◌≡◌, ◌<◌, ◌≤◌, IfOk, IsOk, List, OnErr, OnOk, [], length, map};
 ghost use Rattle.std.specs.{Iterator.{Drains, ExtendsWithItems, IsFiniteIterable}, Iterator.Runs.WholeRun, List.IsDistinct, Map.Iter.deref};
 ghost use Rattle.vecmap_base.specs.{Bulk.HasRoomForAll, Items.adds};
-ghost use Rattle.vecmap_set.specs.Contents.{Empties, HasRoom, Stays};
 ghost use Rattle.vecmap_set.specs.SetBulk.{Adds, AddsClones, AddsCopies, AddsItems, Extends, JoinsItems, RefusesAfter, RefusesCopiesAfter};
+ghost use Rattle.vecmap_set.specs.SetContents.{Empties, HasRoom, Stays};
 
 use crate::VecSet;
 use std::alloc::{AllocError, Global};

@@ -3,10 +3,9 @@
 //! The iterator holds a reference to the set and no vector, so the elements of the set are distinct at any moment.
 ghost use Rattle.std.specs.{Prelude.{◌≡◌, ◌<◌, ◌≤◌, ◌^◌, length, slice_range}, Bound.{end_index, start_index}, Iterator.at_most, List.{IsDistinct, remove_range}};
 ghost use Rattle.std.specs.Iterator.Runs.{YieldsInOrder, YieldsInReverse};
-ghost use Rattle.vecmap_base.specs.{Drain.KeepsAlong, Iterators.HintsExactly};
-ghost use Rattle.vecmap_base.specs.Ranges.{AreEndsWithin, IsRangeWithin, items_between, without_between};
-ghost use Rattle.vecmap_set.specs.Removals.{KeepsFrontItems};
-ghost use Rattle.vecmap_set.specs.Drain.{DrainKeeps, DrainNext, DrainNextBack, drain_capacity, drain_kept, drain_lender, drain_rest};
+ghost use Rattle.vecmap_base.specs.{Drains.KeepsAlong, Iterators.HintsExactly, Ranges.{AreEndsWithin, IsRangeWithin, items_between, without_between}};
+ghost use Rattle.vecmap_set.specs.SetDrain.{DrainKeeps, DrainNext, DrainNextBack, drain_capacity, drain_kept, drain_lender, drain_rest};
+ghost use Rattle.vecmap_set.specs.SetRemovals.{KeepsFrontItems};
 
 use crate::VecSet;
 use std::iter::FusedIterator;
@@ -116,7 +115,7 @@ impl<'a, T: Eq + Drop> Drain<'a, T> {
     /// Drain::over(&mut set, 1, 3).next() // Some(2)
     /// set.as_slice() // [1]
     /// ```
-    #[tactic(auto, using(vecmap_base::proofs::DrainRuns::drains))]
+    #[tactic(auto, using(vecmap_base::proofs::DrainLemmas::drains))]
     pub fn over(set: &'a mut VecSet<T>, start: usize, end: usize) -> Drain<'a, T>
         requires within { IsRangeWithin start end (length set.old.elements) }
         ensures rest { drain_rest result ≡ slice_range set.old.elements start end }
@@ -147,7 +146,7 @@ impl<'a, T: Eq + Drop> Drain<'a, T> {
 
 impl<'a, T: Eq> Drain<'a, T> {
     // Reverses the remaining elements unless they are in the wanted order.
-    #[tactic(auto, using(vecmap_base::proofs::DrainRuns::drains, crate::proofs::SetLemmas::distinct_changes))]
+    #[tactic(auto, using(vecmap_base::proofs::DrainLemmas::drains, crate::proofs::SetLemmas::distinct_changes))]
     fn set_reversed(&mut self, reversed: bool)
         requires { self.old.keep ≤ length self.old.set.now.elements }
         ensures ordered { self.new.reversed ≡ reversed }
@@ -187,7 +186,7 @@ impl<'a, T: Eq + Drop> Iterator for Drain<'a, T> {
 
     ghost remaining = { λ s. at_most (length (drain_rest s)) };
 
-    #[tactic(auto, using(vecmap_base::proofs::DrainRuns::drains, crate::proofs::SetLemmas::distinct_changes))]
+    #[tactic(auto, using(vecmap_base::proofs::DrainLemmas::drains, crate::proofs::SetLemmas::distinct_changes))]
     fn next(&mut self) -> Option<T> {
         if self.set.len() <= self.keep {
             return None;
@@ -209,7 +208,7 @@ impl<'a, T: Eq + Drop> Iterator for Drain<'a, T> {
 impl<'a, T: Eq + Drop> DoubleEndedIterator for Drain<'a, T> {
     ghost next_back_gives = { DrainNextBack };
 
-    #[tactic(auto, using(vecmap_base::proofs::DrainRuns::drains, crate::proofs::SetLemmas::distinct_changes))]
+    #[tactic(auto, using(vecmap_base::proofs::DrainLemmas::drains, crate::proofs::SetLemmas::distinct_changes))]
     fn next_back(&mut self) -> Option<T> {
         if self.set.len() <= self.keep {
             return None;
@@ -222,7 +221,7 @@ impl<'a, T: Eq + Drop> DoubleEndedIterator for Drain<'a, T> {
 
 impl<'a, T: Eq + Drop> ExactSizeIterator for Drain<'a, T> {
     /// Returns the number of remaining elements.
-    #[tactic(auto, using(vecmap_base::proofs::DrainRuns::drains))]
+    #[tactic(auto, using(vecmap_base::proofs::DrainLemmas::drains))]
     fn len(&self) -> usize {
         self.set.len().saturating_sub(self.keep)
     }

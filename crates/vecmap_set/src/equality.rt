@@ -20,7 +20,7 @@ impl<T: Eq> VecSet<T> {
     /// let set = vecset!(alloc; 1, 2);
     /// set.is_disjoint(&vecset!(alloc; 3, 4)) // true
     /// ```
-    #[tactic(auto, using(vecmap_base::proofs::EqualityLemmas::Relations::apart_if_none_shared, vecmap_base::proofs::EqualityLemmas::Relations::none_shared_if_apart, crate::proofs::SetLemmas::queries_apart))]
+    #[tactic(auto, using(vecmap_base::proofs::EqualityLemmas::Sets::apart_if_none_shared, vecmap_base::proofs::EqualityLemmas::Sets::none_shared_if_apart, crate::proofs::SetLemmas::queries_apart))]
     pub fn is_disjoint(&self, other: &VecSet<T>) -> bool
         ensures value { IsTrue result ↔ (both T.eq self.now.elements other.now.elements ≡ []) }
 

@@ -4,7 +4,7 @@
 //! knows only what the trait promises: that the items up to some point were added.
 ghost use Rattle.std.specs.{Iterator.{ExtendsWithItems, IsFiniteIterable}, Map.Iter.deref, Prelude.IsOk};
 ghost use Rattle.vecmap_base.specs.Bulk.{HasRoomForAll};
-ghost use Rattle.vecmap_set.specs.{Contents.HasRoom, SetBulk.{Adds, AddsCopies, Extends, GrowsDistinct, RefusesAfter, RefusesCopiesAfter}};
+ghost use Rattle.vecmap_set.specs.{SetBulk.{Adds, AddsCopies, Extends, GrowsDistinct, RefusesAfter, RefusesCopiesAfter}, SetContents.HasRoom};
 
 use crate::VecSet;
 use std::alloc::AllocError;

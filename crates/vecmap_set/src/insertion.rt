@@ -2,7 +2,8 @@
 ghost use Rattle.std.specs.Prelude.{◌≡◌, ◌^◌, ◌<◌, Err, IfErr, IfOk, IfSome, IsTrue, None, Ok, OnErr, OnOk, Some, false, length, position, unwrap_or};
 ghost use Rattle.std.specs.Set.{is_member};
 ghost use Rattle.vecmap_base.specs.Items.{item_index};
-ghost use Rattle.vecmap_set.specs.{Contents.{FailsToInsert, IsFull, KeepsRoom, KeepsRoomAt, Refuses, Reserves}, Indices.FindsAt, Insertions.{AddsItem, AppendsItem, FindsOrAppends, PutsItem, TellsIfAdded}, Removals.FindsItem};
+ghost use Rattle.vecmap_set.specs.{SetContents.{FailsToInsert, IsFull, KeepsRoom, KeepsRoomAt, Refuses, Reserves}, SetIndices.FindsAt};
+ghost use Rattle.vecmap_set.specs.{SetInsertions.{AddsItem, AppendsItem, FindsOrAppends, PutsItem, TellsIfAdded}, SetRemovals.FindsItem};
 
 use crate::VecSet;
 use std::alloc::AllocError;
@@ -129,7 +130,7 @@ impl<T: Eq> VecSet<T> {
     /// set.insert_unique(2)?;
     /// set.as_slice() // [1, 2]
     /// ```
-    #[tactic(auto, using(crate::proofs::SetLemmas::distinct_changes, crate::proofs::IndexLemmas::stored_last))]
+    #[tactic(auto, using(crate::proofs::SetLemmas::distinct_changes, crate::proofs::SetIndexLemmas::stored_last))]
     pub fn insert_unique(&mut self, item: T) -> Result<(), Refused<T>>
         requires absent { is_member T.eq self.old.elements item ≡ false }
         ensures list { OnOk result (AppendsItem self.old.elements item self.new.elements) }

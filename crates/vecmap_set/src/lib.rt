@@ -72,7 +72,7 @@ pub struct VecSet<T: Eq> {
 
 impl<T: Eq> Model for VecSet<T> {
     ghost use Rattle.std.specs.List.{IsDistinct};
-    ghost use Rattle.vecmap_set.specs.Contents.{Contents};
+    ghost use Rattle.vecmap_set.specs.SetContents.{Contents};
 
     ghost Value = { Contents T };
 

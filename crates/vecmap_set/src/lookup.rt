@@ -5,7 +5,7 @@
 ghost use Rattle.std.specs.Prelude.{◌≡◌, ◌-◌, ◌<◌, ◌^◌, IfSome, IsTrue, Some, is_some, length, nat_lt, option_copied, option_map, position, slice_get};
 ghost use Rattle.std.specs.List.{list_any};
 ghost use Rattle.vecmap_base.specs.{Items.stored_first, Pairs.has_text};
-ghost use Rattle.vecmap_set.specs.Indices.{IsFoundAt};
+ghost use Rattle.vecmap_set.specs.SetIndices.{IsFoundAt};
 
 use crate::VecSet;
 use vecmap_base::{Equivalent, contains_equivalent, find_item_equivalent};
@@ -34,7 +34,7 @@ impl<T: Eq> VecSet<T> {
     /// let set = vecset!(alloc; 2, 1);
     /// set.first() // Some(&2)
     /// ```
-    #[tactic(auto, using(crate::proofs::IndexLemmas::item_by_reference, crate::proofs::IndexLemmas::found_by_reference))]
+    #[tactic(auto, using(crate::proofs::SetIndexLemmas::item_by_reference, crate::proofs::SetIndexLemmas::found_by_reference))]
     pub fn first(&self) -> Option<&T>
         ensures item { option_copied result ≡ slice_get self.now.elements 0 }
 
@@ -53,7 +53,7 @@ impl<T: Eq> VecSet<T> {
     /// let set = vecset!(alloc; 2, 1);
     /// set.last() // Some(&1)
     /// ```
-    #[tactic(auto, using(crate::proofs::IndexLemmas::item_by_reference, crate::proofs::IndexLemmas::last_by_reference))]
+    #[tactic(auto, using(crate::proofs::SetIndexLemmas::item_by_reference, crate::proofs::SetIndexLemmas::last_by_reference))]
     pub fn last(&self) -> Option<&T>
         ensures item { option_copied result
             ≡ slice_get self.now.elements (length self.now.elements - 1) }
@@ -75,7 +75,7 @@ impl<T: Eq> VecSet<T> {
     /// set.get(&2) // Some(&2)
     /// set.get(&3) // None
     /// ```
-    #[tactic(auto, using(vecmap_base::proofs::IndexLemmas::list_any_position, crate::proofs::QueryLemmas::reference_matches))]
+    #[tactic(auto, using(vecmap_base::proofs::IndexLemmas::list_any_position, crate::proofs::SetIndexLemmas::reference_matches))]
     pub fn get<Q: Equivalent<T>>(&self, query: Q) -> Option<&T>
         ensures returned { option_copied result
             ≡ stored_first (Q.equivalent query) self.now.elements }
@@ -97,7 +97,7 @@ impl<T: Eq> VecSet<T> {
     /// set.get_index(0) // Some(&2)
     /// set.get_index(2) // None
     /// ```
-    #[tactic(auto, using(crate::proofs::IndexLemmas::item_by_reference, crate::proofs::IndexLemmas::found_by_reference))]
+    #[tactic(auto, using(crate::proofs::SetIndexLemmas::item_by_reference, crate::proofs::SetIndexLemmas::found_by_reference))]
     pub fn get_index(&self, index: usize) -> Option<&T>
         ensures item { option_copied result ≡ slice_get self.now.elements index }
 
@@ -145,7 +145,7 @@ impl<T: Eq> VecSet<T> {
     /// set.get_index_of(&1) // Some(1)
     /// set.get_index_of(&3) // None
     /// ```
-    #[tactic(auto, using(vecmap_base::proofs::IndexLemmas::list_any_position, crate::proofs::IndexLemmas::found_item_at))]
+    #[tactic(auto, using(vecmap_base::proofs::IndexLemmas::list_any_position, crate::proofs::SetIndexLemmas::found_item_at))]
     pub fn get_index_of<Q: Equivalent<T>>(&self, query: Q) -> Option<usize>
         ensures index { result ≡ position (Q.equivalent query) self.now.elements }
         ensures within { IfSome result (λ i. i < length self.now.elements) }

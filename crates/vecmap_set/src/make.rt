@@ -14,7 +14,7 @@ impl<T: Eq> VecSet<T> {
     /// let set: VecSet<u32> = VecSet::new(alloc);
     /// (set.len(), set.capacity()) // (0, 0)
     /// ```
-    #[tactic(auto, using(vecmap_base::proofs::DistinctLemmas::Absent::distinct_none))]
+    #[tactic(auto, using(vecmap_base::proofs::DistinctLemmas::distinct_none))]
     pub fn new(alloc: Global) -> VecSet<T>
         ensures list { result.elements ≡ [] }
         ensures distinct { IsDistinct T.eq result.elements }
@@ -45,7 +45,7 @@ impl<T: Eq> VecSet<T> {
     /// set.is_empty() // true
     /// 4 <= set.capacity() // true
     /// ```
-    #[tactic(auto, using(vecmap_base::proofs::DistinctLemmas::Absent::distinct_none))]
+    #[tactic(auto, using(vecmap_base::proofs::DistinctLemmas::distinct_none))]
     pub fn with_capacity(alloc: Global, capacity: usize) -> Result<VecSet<T>, AllocError>
         ensures list { IfOk result (λ set. set.elements ≡ []) }
         ensures distinct { IfOk result (λ set. IsDistinct T.eq set.elements) }

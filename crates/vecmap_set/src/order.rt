@@ -1,7 +1,7 @@
 //! Reversing, moving, swapping and sorting the elements.
 ghost use Rattle.std.specs.Prelude.{◌≡◌, ◌<◌, ◌≤◌, IsOk, OnErr, OnOk, length};
 ghost use Rattle.std.specs.List.Sorted.{IsSorted, IsSortedByClosure, IsSortedByKeyClosure, IsStable, IsStableByClosure, IsStableByKeyClosure};
-ghost use Rattle.vecmap_set.specs.Reorders.{MovesItem, ReordersItems, ReversesItems, SwapsItems};
+ghost use Rattle.vecmap_set.specs.SetReorders.{MovesItem, ReordersItems, ReversesItems, SwapsItems};
 
 use crate::VecSet;
 use std::alloc::AllocError;
@@ -22,7 +22,7 @@ impl<T: Eq> VecSet<T> {
     /// set.reverse();
     /// set.as_slice() // [3, 2, 1]
     /// ```
-    #[tactic(auto, using(vecmap_base::proofs::DistinctLemmas::Order::distinct_reverse))]
+    #[tactic(auto, using(vecmap_base::proofs::DistinctLemmas::distinct_reverse))]
     pub fn reverse(&mut self)
         ensures reordered { ReversesItems T.eq self.old.elements self.new.elements }
         ensures capacity { self.new.capacity ≡ self.old.capacity }

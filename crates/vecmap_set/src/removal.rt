@@ -1,10 +1,10 @@
 //! Removal of elements.
 ghost use Rattle.std.specs.Prelude.{◌≡◌, ◌-◌, ◌<◌, ◌≤◌, Bool, IfNone, IfOk, IfSome, IsOk, OnErr, String, [], false, length, position, remove, string_eq, true};
 ghost use Rattle.std.specs.{Fn.TakesAt, List.{IsDistinct, list_any}};
-ghost use Rattle.vecmap_base.specs.{Asked.{CallableOnEach, CallsAtItem}, Kept.ReturnsAt, Items.{swap_without, swap_without_first, without_first}, Pairs.has_text};
-ghost use Rattle.vecmap_set.specs.Contents.{Stays};
-ghost use Rattle.vecmap_set.specs.Indices.{MovesItemIndex, ShiftsItems};
-ghost use Rattle.vecmap_set.specs.Removals.{FindsItem, KeepsFrontItems, RemovesItemAt, RemovesItemBy, RemovesLastItem, RetainsItems, SplitsItems, Takes};
+ghost use Rattle.vecmap_base.specs.{FnMutCalls.{CallableOnEach, CallsAtItem}, Items.{swap_without, swap_without_first, without_first}, Kept.ReturnsAt};
+ghost use Rattle.vecmap_base.specs.Pairs.{has_text};
+ghost use Rattle.vecmap_set.specs.{SetContents.Stays, SetIndices.{MovesItemIndex, ShiftsItems}};
+ghost use Rattle.vecmap_set.specs.SetRemovals.{FindsItem, KeepsFrontItems, RemovesItemAt, RemovesItemBy, RemovesLastItem, RetainsItems, SplitsItems, Takes};
 
 use crate::VecSet;
 use std::alloc::AllocError;
@@ -20,7 +20,7 @@ impl<T: Eq> VecSet<T> {
     /// set.clear();
     /// set.is_empty() // true
     /// ```
-    #[tactic(auto, using(vecmap_base::proofs::DistinctLemmas::Absent::distinct_none))]
+    #[tactic(auto, using(vecmap_base::proofs::DistinctLemmas::distinct_none))]
     pub fn clear(&mut self)
     where
         T: Drop,
@@ -42,7 +42,7 @@ impl<T: Eq> VecSet<T> {
     /// set.truncate(1);
     /// set.as_slice() // [1]
     /// ```
-    #[tactic(auto, using(vecmap_base::proofs::DistinctLemmas::Removals::distinct_take))]
+    #[tactic(auto, using(vecmap_base::proofs::DistinctLemmas::distinct_take))]
     pub fn truncate(&mut self, len: usize)
     where
         T: Drop,
@@ -144,7 +144,7 @@ impl<T: Eq> VecSet<T> {
     /// set.pop() // Some(2)
     /// set.as_slice() // [1]
     /// ```
-    #[tactic(auto, using(vecmap_base::proofs::DistinctLemmas::Removals::distinct_take))]
+    #[tactic(auto, using(vecmap_base::proofs::DistinctLemmas::distinct_take))]
     pub fn pop(&mut self) -> Option<T>
         ensures removal { RemovesLastItem T.eq self.old.elements result self.new.elements }
         ensures capacity { self.new.capacity ≡ self.old.capacity }
@@ -205,7 +205,7 @@ impl<T: Eq> VecSet<T> {
     /// set.remove_index(0) // 1
     /// set.as_slice() // [2, 3]
     /// ```
-    #[tactic(auto, using(vecmap_base::proofs::DistinctLemmas::Removals::distinct_remove))]
+    #[tactic(auto, using(vecmap_base::proofs::DistinctLemmas::distinct_remove))]
     pub fn remove_index(&mut self, index: usize) -> T
         requires within { index < length self.old.elements }
         ensures removal { RemovesItemAt T.eq remove index self.old.elements result

@@ -1,6 +1,6 @@
 //! The number of elements, and the capacity.
 ghost use Rattle.std.specs.{Prelude.{◌≡◌, ◌<◌, ◌==◌, ◌^◌, ◌↔◌, ◌≤◌, IsTrue, [], length, min}, List.IsDistinct};
-ghost use Rattle.vecmap_set.specs.Contents.{HasRoom, Reserves};
+ghost use Rattle.vecmap_set.specs.SetContents.{HasRoom, Reserves};
 
 use crate::VecSet;
 use std::alloc::AllocError;

@@ -2,8 +2,8 @@
 ghost use Rattle.std.specs.{Prelude.{◌≡◌, ◌<◌, ◌≤◌, Bool, IfOk, false, is_ok, length, true}, List.{All, HoldsAt}};
 ghost use Rattle.std.specs.List.Sorted.{IsBinarySearchResult, IsPartitionPoint, IsPartitionedBy, IsSearchInRange, IsSorted};
 ghost use Rattle.std.specs.{Set.is_member, declared.cmp.Ordering.Ordering};
-ghost use Rattle.vecmap_base.specs.Orders.{CallableOnItem, ReturnsOnItems};
-ghost use Rattle.vecmap_set.specs.Indices.{FindsAt};
+ghost use Rattle.vecmap_base.specs.FnCalls.{CallableOnItem, ReturnsOnItems};
+ghost use Rattle.vecmap_set.specs.SetIndices.{FindsAt};
 
 use crate::VecSet;
 use std::cmp::Ordering;

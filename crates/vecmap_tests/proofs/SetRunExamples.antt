@@ -7,7 +7,7 @@ use Rattle.vecmap.specs.{declared.set_run.command.SetCommand.SetCommand, declare
 use Rattle.vecmap.specs.declared.set_run.command.SetCommand.TheVariants.{Contains, Equals, Exclusive, First, Get, GetIndex, IndexOf, Intersect, IsDisjoint, IsSubset, IsSuperset, Last, Len, Subtract, ToVec, Unite, Append, Clear, Insert, Pop, Remove, RemoveIndex, Replace, Reverse, SplitOff, SwapIndices, SwapRemove, SwapRemoveIndex, SwapTake, Take, Truncate}
 use Rattle.vecmap.specs.declared.set_run.reply.SetReply.TheVariants.{Done, Item, Items, Made, NoMemory, Number, OutOfRange, Place, Truth}
 use Rattle.vecmap_base.specs.Clones.{AreClones}
-use Rattle.vecmap_set.specs.Contents.{Contents, KeepsRoom}
+use Rattle.vecmap_set.specs.SetContents.{Contents, KeepsRoom}
 
 module _ {T : Type 0} (x y : T) (clones : clone.Ghosts (ℕ × T)) (reply : SetReply (ℕ × T)) (m : List (ℕ × T)) (new : Contents (ℕ × T)) (i j index : ℕ) (found : Option ℕ) (truth : Bool) (item : Option (ℕ × T)) (made : Contents (ℕ × T)) where
   abbrev eq : ℕ × T → ℕ × T → Bool

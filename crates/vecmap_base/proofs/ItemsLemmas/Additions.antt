@@ -1,8 +1,18 @@
--- What additions, in order, make of a list.
-use Rattle.std.specs.{Cmp.IsEquivalence, List.IsDistinct, Set.is_member}
-use Rattle.std.proofs.Common.{◌≡◌, ℕ, Bool, true, false, List, [], ◌∷◌, ◌++◌, if◌then◌else◌, ◌+◌, ◌<◌, length, take, ap, get_or, ◌∙◌, subst}
-use Rattle.std.proofs.{Common.sym, lemmas.List.{append-nil, append_assoc, Sums.fold_more}}
-use Rattle.vecmap_base.{specs.Items.{add, adds}, proofs.DistinctLemmas.Absent.none_before}
+-- What additions, in order, make of a list. First come the definitions, for a list with one element more.
+use Rattle.std.specs.{Cmp.IsEquivalence, List.IsDistinct, Option.option_map, Set.is_member}
+use Rattle.std.proofs.Common.{arith, ◌≡◌, suc, Bool, List, ◌∷◌, Some, if◌then◌else◌, slice_set, ℕ, true, false, [], ◌++◌, ◌+◌, ◌<◌, length, take, ap, get_or, ◌∙◌, subst, sym}
+use Rattle.std.proofs.lemmas.List.{append-nil, append_assoc, Sums.fold_more}
+use Rattle.vecmap_base.{specs.Items.{add, item_index, put_item, adds}, proofs.{DistinctLemmas.none_before, IndexLemmas.position_cons}}
+
+module _ {T : Type 0} (eq : T → T → Bool) where
+  pub item_index_cons : (y : T) (ys : List T) (x : T) → item_index eq (y ∷ ys) x ≡ (if eq x y then Some 0 else option_map suc (item_index eq ys x))
+  item_index_cons y ys x = position_cons (eq x) y ys
+
+  pub add_cons : (y : T) (ys : List T) (x : T) → add eq (y ∷ ys) x ≡ (if eq x y then y ∷ ys else y ∷ add eq ys x)
+  add_cons y ys x = grind (arith)
+
+  pub put_item_cons : (y : T) (ys : List T) (x : T) → put_item eq (y ∷ ys) x ≡ (if eq x y then x ∷ ys else y ∷ put_item eq ys x)
+  put_item_cons y ys x = grind (arith, slice_set, item_index_cons)
 
 module _ {T : Type 0} (eq : T → T → Bool) where
   pub add_absent : (s : List T) (x : T) → is_member eq s x ≡ false → add eq s x ≡ s ++ x ∷ []

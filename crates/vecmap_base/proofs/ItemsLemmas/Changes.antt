@@ -6,7 +6,8 @@ use Rattle.std.proofs.Common.{◌≡◌, ◌∙◌, ◌&&◌, ◌||◌, ℕ, suc
 use Rattle.std.proofs.{lemmas.Bool.Decides.nat_tests, lemmas.List.take-append-drop}
 use Rattle.std.proofs.lemmas.List.Folds.{list_any-append}
 use Rattle.vecmap_base.specs.{Clones.AreClones, Items.put_item, Lookups.UpdatesMember}
-use Rattle.vecmap_base.proofs.{IndexLemmas.{list_any_position, position_cons}, ItemsLemmas.{Members.{members_from, members_removed}, Recursion.put_item_cons}, TakenLemmas.last_taken}
+use Rattle.vecmap_base.proofs.{IndexLemmas.{list_any_position, position_cons}, ItemsLemmas.{Additions.put_item_cons, Members.{members_from, members_removed}}}
+use Rattle.vecmap_base.proofs.TakenLemmas.{last_taken}
 
 module _ {T : Type 0} (test : T → Bool) where
   -- Among the first `n` elements, one passes exactly if the first that passes is among them.

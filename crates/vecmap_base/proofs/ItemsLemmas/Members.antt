@@ -1,12 +1,17 @@
--- Which elements are present after an addition and after a removal, in the words of contracts.
-use Rattle.std.proofs.{Math.Bool.{or-false, or-true}, lemmas.{Bool.cases_Bool, Grind.common_steps, List.Folds.list_any-append}}
-use Rattle.std.specs.{Cmp.IsEquivalence, List.IsDistinct, List.list_any, List.Sorted.IsPermutation, Map.AreApart, Map.IsKeyTest}
-use Rattle.std.specs.Set.{is_member, KeepsOthers}
-use Rattle.std.proofs.Common.{◌≡◌, ◌∙◌, ◌||◌, ◌++◌, Bool, true, false, List, [], ◌∷◌, None, ap, arith, inl, inr, is_some, position, refl, subst, sym}
-use Rattle.std.proofs.{lemmas.List.Sorted.list_any-IsPermutation, lemmas.Map.Keys.IsDistinct-head}
-use Rattle.vecmap_base.specs.{Items.{add, adds}, Lookups.UpdatesMember}
-use Rattle.vecmap_base.proofs.{DistinctLemmas.{Absent.none_equal, Order.distinct_rearranged}, PairsLemmas.Lookups.compares_with}
-use Rattle.vecmap_base.proofs.{IndexLemmas.list_any_position, ItemsLemmas.Additions.add_absent, TakenLemmas.TakesFirst}
+-- Which elements are present: in the rest of a list, after an addition, after a removal, and among those that a closure
+-- has kept.
+use Rattle.std.specs.{Cmp.IsEquivalence, List.{list_any, IsDistinct, Sorted.IsPermutation}, Map.{AreApart, IsKeyTest}, Set.{is_member, KeepsOthers}}
+use Rattle.std.proofs.Common.{◌≡◌, ℕ, Bool, List, length, ap, ◌∙◌, ◌-◌, drop, is_some, take, ◌||◌, ◌++◌, true, false, [], ◌∷◌, None, arith, inl, inr, position, refl, subst, sym, ◌&&◌}
+use Rattle.std.proofs.{Math.Bool.{or-false, or-true}, lemmas.{Bool.cases_Bool, Grind.common_steps, List.{take_rest, Folds.list_any-append}}}
+use Rattle.std.proofs.lemmas.{List.Sorted.list_any-IsPermutation, Map.Keys.IsDistinct-head}
+use Rattle.vecmap_base.specs.{Items.{item_index, add, adds}, Kept.{Kept, ReturnsAt}, Lookups.UpdatesMember}
+use Rattle.vecmap_base.proofs.{DistinctLemmas.{none_equal, distinct_rearranged}, IndexLemmas.{is_some_position, list_any_position}}
+use Rattle.vecmap_base.proofs.{ItemsLemmas.Additions.add_absent, PairsLemmas.LookupsAfterChanges.compares_with, TakenLemmas.TakesFirst}
+
+module _ {T : Type 0} (eq : T → T → Bool) where
+  -- The rest of the list from `i` on has an index of `x` exactly if it has an equal element.
+  pub is_some_item_index_rest : (s : List T) (i : ℕ) (x : T) → is_some (item_index eq (take (length s - i) (drop i s)) x) ≡ list_any (eq x) (drop i s)
+  is_some_item_index_rest s i x = ap (λ r. is_some (item_index eq r x)) (take_rest s i) ∙ is_some_position (eq x) (drop i s)
 
 module _ {T : Type 0} (eq : T → T → Bool) (o : IsEquivalence eq) where
   module _ (test : T → Bool) (respects : IsKeyTest eq test) where
@@ -66,3 +71,9 @@ module _ {T : Type 0} (eq : T → T → Bool) (o : IsEquivalence eq) where
   pub is_member_adds : (s xs : List T) (q : T) → is_member eq (adds eq s xs) q ≡ (is_member eq s q || is_member eq xs q)
   is_member_adds s [] q = grind (arith, common_steps, or-false, members_of_add)
   is_member_adds s (x ∷ xs) q = grind (arith, common_steps, or-false, members_of_add, (is_member_adds (add eq s x) xs q))
+
+module _ {F T : Type 0} (R : F → T → Bool → T → F → Type 0) (same : (f : F) (x : T) (b : Bool) (y : T) (g : F) → R f x b y g → y ≡ x) (query : T → Bool) (kept : Bool) where
+  -- A query finds what it found if the closure keeps the elements that it matches.
+  pub any_filtered : (f g : F) (l m : List T) → ReturnsAt R f query kept → Kept R f l m g → list_any query m ≡ (list_any query l && kept)
+  any_filtered f g [] m told k = grind (arith)
+  any_filtered f g (x ∷ xs) m told k = grind (arith, (any_filtered k.2 g xs k.3))

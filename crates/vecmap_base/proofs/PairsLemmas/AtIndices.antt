@@ -1,12 +1,15 @@
--- At which indices keys are after a change, in the words of contracts.
-use Rattle.std.specs.{Cmp.IsEquivalence, List.AllByRecursion, List.Sorted.IsPermutation, Map.IsKeyTest, Map.keys_of}
-use Rattle.std.proofs.Common.{◌≡◌, ◌∙◌, ◌-◌, ◌<◌, ◌++◌, ℕ, zero, suc, Bool, true, false, List, [], ◌∷◌, None, Option, Some, IfSome, ap, arith, drop, if◌then◌else◌, is_some, map, option_map, refl, remove, slice_get, subst, sym, take}
-use Rattle.std.proofs.{lemmas.List.{drop-map, length-map, map-append, take-map}, lemmas.Map.Keys.{IsDistinct-head, IsDistinct-tail}}
-use Rattle.std.proofs.{lemmas.Option.{none-some, same_Some}, lemmas.Map.Entries.lookup_from_place}
-use Rattle.vecmap_base.specs.{Indices.HasMatchAt, Indices.IsFoundAt, Indices.KeepsIndices, Indices.MovesIndex, Indices.ShiftsIndices}
-use Rattle.vecmap_base.specs.Pairs.{HasDistinctKeys, index_by, lookup_by, without_by}
+-- At which indices keys are after a change, in the words of contracts, and what lookups find after a write at an index.
+use Rattle.std.specs.{Cmp.IsEquivalence, List.{AllByRecursion, Sorted.IsPermutation}, Map.{IsKeyTest, keys_of}, Option.option_map_or}
+use Rattle.std.proofs.Common.{◌≡◌, ◌∙◌, ◌-◌, ◌<◌, ◌++◌, ℕ, zero, suc, Bool, true, false, List, [], ◌∷◌, None, Option, Some, IfSome, ap, arith, drop, if◌then◌else◌, is_some, map, option_map, refl, remove, slice_get, subst, sym, take, IsSome}
+use Rattle.std.proofs.lemmas.{List.{drop-map, length-map, map-append, take-map}, Map.{keys-set_value, Entries.lookup_from_place}}
+use Rattle.std.proofs.lemmas.{Map.Keys.{IsDistinct-head, IsDistinct-tail}, Option.{none-some, same_Some}}
+use Rattle.vecmap_base.specs.{Indices.{HasMatchAt, IsFoundAt, KeepsIndices, MovesIndex, ShiftsIndices}, Lookups.{UpdatesAt, WritesBy}}
+use Rattle.vecmap_base.specs.Pairs.{HasDistinctKeys, index_by, lookup_by, without_by, with_value}
 use Rattle.vecmap_base.proofs.{IndexLemmas.{position_front, position_stays}, MoveLemmas.front_removed}
-use Rattle.vecmap_base.proofs.PairsLemmas.{ByIndex.{index_by_is, lookup_by_index, without_by_index}, Distinct.distinct_keys_rearranged}
+use Rattle.vecmap_base.proofs.PairsLemmas.ByIndex.{index_by_is, lookup_by_index, without_by_index, is_some_lookup_by, set_value_by_index}
+use Rattle.vecmap_base.proofs.PairsLemmas.LookupsAfterChanges.{distinct_keys_rearranged}
+use Rattle.vecmap_base.proofs.PairsLemmas.Updates.{updates_matched, updates_write, updates_written_at, written_found}
+use Rattle.vecmap_base.proofs.PairsLemmas.Values.{keys_of_with_value, values_of_with_value}
 
 -- Without the item at an index, the results of a function of each other item stay.
 removed_each : {X Y : Type 0} (f : X → Y) (l : List X) (i : ℕ) → map f (remove l i) ≡ remove (map f l) i
@@ -132,3 +135,21 @@ module _ {K V : Type 0} where
   -- The same in another order.
   pub moves_index : (l m : List (K × V)) (i j : ℕ) → IsPermutation l m → slice_get m j ≡ slice_get l i → MovesIndex i j l m
   moves_index l m i j moved at = moves_one l m i j (λ eq o d. distinct_keys_rearranged eq o l m moved d) at
+
+pub writes_by : {K V : Type 0} (eq : K → K → Bool) (o : IsEquivalence eq) (test : K → Bool) → IsKeyTest eq test → (l : List (K × V)) → WritesBy eq test l
+writes_by eq o test respects l = record { updates = updates_write eq o test respects l; keys = λ v. keeps_indices l _ (keys-set_value test l v) }
+
+module _ {K V : Type 0} where
+  own_value : (test : K → Bool) (l : List (K × V)) (i : ℕ) (v : V) → index_by test l ≡ Some i → lookup_by test (with_value l i v) ≡ Some v
+  own_value test l i v at =
+      let some : IsSome (lookup_by test l) = is_some_lookup_by test l ∙ ap is_some at in
+      ap (lookup_by test) (sym (set_value_by_index test l v ∙ ap (λ o. option_map_or (λ j. with_value l j v) o l) at)) ∙ written_found test v l some
+
+  -- After a write of the value at an index.
+  pub updates_at : (l : List (K × V)) (i : ℕ) (v : V) → UpdatesAt i l (with_value l i v) v
+  updates_at l i v = record {
+    own = λ test at. own_value test l i v at;
+    updates = λ eq test o respects at. updates_written_at eq o test respects l l (lookup_by test l) i v (updates_matched eq o test respects l) at;
+    values = values_of_with_value l i v;
+    keys = keeps_indices l (with_value l i v) (keys_of_with_value l i v);
+  }

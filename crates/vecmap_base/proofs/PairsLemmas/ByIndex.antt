@@ -1,10 +1,11 @@
--- The definitions on pairs that are by recursion, by the index of the first key that passes a test.
-use Rattle.std.specs.{Map.set_value, Option.{option_map, option_map_or, option_and_then}}
-use Rattle.std.proofs.Common.{arith, ◌≡◌, ℕ, suc, Bool, true, false, List, [], ◌∷◌, ◌++◌, Option, None, Some, if◌then◌else◌, refl, ap, ◌∙◌, sym, get_or, is_some, length, position, remove, set, slice_get, slice_set, swap_remove, true≢false, ◌<◌}
-use Rattle.std.proofs.lemmas.Option.{slice_get-get_or}
+-- The definitions on pairs that are by recursion, by the index of the first key that passes a test, and whether there
+-- is one.
+use Rattle.std.specs.{List.list_any, Map.{set_value, keys_of}, Option.{option_map, option_map_or, option_and_then}}
+use Rattle.std.proofs.Common.{arith, ◌≡◌, ℕ, suc, Bool, true, false, List, [], ◌∷◌, ◌++◌, Option, None, Some, if◌then◌else◌, refl, ap, ◌∙◌, sym, get_or, is_some, length, position, remove, set, slice_get, slice_set, swap_remove, true≢false, ◌<◌, ◌-◌, drop, take}
+use Rattle.std.proofs.lemmas.{List.{drop-map, take_rest}, Map.Made.lookup-map_values, Option.slice_get-get_or}
 use Rattle.vecmap_base.specs.Items.{swap_without}
-use Rattle.vecmap_base.specs.Pairs.{index_by, index_of, lookup_by, lookup_pair_by, put, put_key, swap_without_by, value_at, with_pair, with_value, without_by}
-use Rattle.vecmap_base.proofs.{IndexLemmas.{position_appended, position_cons}, PairsLemmas.Values.with_value_cons}
+use Rattle.vecmap_base.specs.Pairs.{index_by, index_of, lookup_by, lookup_pair_by, put, put_key, swap_without_by, value_at, with_pair, with_value, without_by, map_values}
+use Rattle.vecmap_base.proofs.{IndexLemmas.{position_appended, position_cons, is_some_position, list_any_map}, PairsLemmas.Values.with_value_cons}
 
 module _ {K V : Type 0} (test : K → Bool) where
   -- The index is the one of std's lists.
@@ -90,3 +91,16 @@ module _ {K V : Type 0} (eq : K → K → Bool) (l : List (K × V)) (k : K) (v :
 
 -- The definitions by the index, for proofs of functions that find the index first.
 pub ruleset by_index = (lookup_by_index, lookup_pair_by_index, without_by_index, set_value_by_index, put_by_index, put_key_by_index)
+
+module _ {K V W : Type 0} (g : V → W) where
+  -- In the list with `g` of each value, a lookup finds `g` of what it found before.
+  pub lookup_by_map_values : (test : K → Bool) (l : List (K × V)) → lookup_by test (map_values g l) ≡ option_map g (lookup_by test l)
+  lookup_by_map_values test l = lookup-map_values g test l
+
+module _ {K V : Type 0} (eq : K → K → Bool) where
+  pub is_some_index_of : (l : List (K × V)) (k : K) → is_some (index_of eq l k) ≡ list_any (eq k) (keys_of l)
+  is_some_index_of l k = ap is_some (index_by_is (eq k) l) ∙ is_some_position (λ p. eq k p.0) l ∙ sym (list_any_map (eq k) (λ p. p.0) l)
+
+  -- The rest of the list from `i` on has an index of `k` exactly if it has an equal key.
+  pub is_some_index_of_rest : (l : List (K × V)) (i : ℕ) (k : K) → is_some (index_of eq (take (length l - i) (drop i l)) k) ≡ list_any (eq k) (drop i (keys_of l))
+  is_some_index_of_rest l i k = ap (λ r. is_some (index_of eq r k)) (take_rest l i) ∙ is_some_index_of (drop i l) k ∙ ap (list_any (eq k)) (sym (drop-map (λ p. p.0) i l))

@@ -1,9 +1,16 @@
--- The keys of a list of pairs, as a list of elements. What changes the pairs changes the keys in the same way.
+-- The keys of a list of pairs, as a list of elements. What changes the pairs changes the keys in the same way. First
+-- come the definitions, for a list with one pair more.
 use Rattle.std.specs.{Map.keys_of, Option.option_map}
-use Rattle.std.proofs.Common.{arith, ◌≡◌, ℕ, suc, Bool, List, [], ◌∷◌, ◌++◌, Some, drop, if◌then◌else◌, insert, refl, sym, take, ap, ◌∙◌}
+use Rattle.std.proofs.Common.{◌≡◌, suc, Bool, List, ◌∷◌, Some, if◌then◌else◌, refl, arith, ℕ, [], ◌++◌, drop, insert, sym, take, ap, ◌∙◌}
 use Rattle.std.proofs.lemmas.List.{drop-map, map-append, take-map}
-use Rattle.vecmap_base.specs.{Items.add, Items.adds, Items.item_index, Pairs.index_of, Pairs.put, Pairs.puts}
-use Rattle.vecmap_base.proofs.{ItemsLemmas.Recursion.{add_cons, item_index_cons}, PairsLemmas.Recursion.{index_of_cons, put_cons}}
+use Rattle.vecmap_base.{specs.{Items.{add, adds, item_index}, Pairs.{index_of, put, puts}}, proofs.ItemsLemmas.Additions.{add_cons, item_index_cons}}
+
+module _ {K V : Type 0} (eq : K → K → Bool) where
+  pub index_of_cons : (p : K × V) (ps : List (K × V)) (k : K) → index_of eq (p ∷ ps) k ≡ (if eq k p.0 then Some 0 else option_map suc (index_of eq ps k))
+  index_of_cons p ps k = refl
+
+  pub put_cons : (p : K × V) (ps : List (K × V)) (k : K) (v : V) → put eq (p ∷ ps) k v ≡ (if eq k p.0 then (p.0, v) ∷ ps else p ∷ put eq ps k v)
+  put_cons p ps k v = refl
 
 module _ {K V : Type 0} where
   pub keys_of_insert : (l : List (K × V)) (i : ℕ) (k : K) (v : V) → keys_of (insert l i (k, v)) ≡ insert (keys_of l) i k

@@ -3,11 +3,10 @@ use Rattle.std.proofs.{Common.{arith, rules, subst, sym}, lemmas.Option.slice_ge
 use Rattle.std.proofs.lemmas.List.Sorted.{IsPermutation-reverse, IsPermutation-swap, length_permutation}
 use Rattle.std.specs.{Prelude.{◌≡◌, ◌-◌, ◌<◌, ℕ, Bool, List, Some, length, reverse, suc, swap}, Cmp.IsEquivalence}
 use Rattle.std.specs.{List.Sorted.IsPermutation, Map.IsKeyTest}
-use Rattle.vecmap_base.specs.{Items.moved, Lookups.IsReordered, Reorders.{MovesPair, ReversesPairs, SwapsPairs}}
-use Rattle.vecmap_base.{specs.Pairs.{HasDistinctKeys, index_by}, proofs.EqualityLemmas.Maps.equal_rearranged}
-use Rattle.vecmap_base.proofs.PairsLemmas.AtIndices.{match_at, moves_index, stays_in_front}
+use Rattle.vecmap_base.specs.{Items.moved, Lookups.IsReordered, Pairs.{HasDistinctKeys, index_by}, Reorders.{MovesPair, ReversesPairs, SwapsPairs}}
+use Rattle.vecmap_base.proofs.EqualityLemmas.Maps.{equal_rearranged}
 use Rattle.vecmap_base.proofs.MoveLemmas.{at_reversed, moved_item, moved_other, swapped_item, swapped_item_back, swapped_other}
-use Rattle.vecmap_base.proofs.PairsLemmas.{Parts.matches_rearranged, Updates.lookups_rearranged}
+use Rattle.vecmap_base.proofs.PairsLemmas.{AtIndices.{match_at, moves_index, stays_in_front}, ManyPairs.matches_rearranged, Updates.lookups_rearranged}
 
 module _ {K V : Type 0} (l m : List (K × V)) where
   pub reordered : IsPermutation l m → IsReordered l m

@@ -1,8 +1,65 @@
--- What a closure leaves of a list of pairs: what lookups find, how many, which if it only tests them, and all if it keeps all.
-use Rattle.std.proofs.Common.{◌≡◌, ◌≤◌, Bool, true, List, [], ◌∷◌, None, arith, false, filter, length, not}
-use Rattle.std.proofs.{lemmas.Bool.cases_Bool, lemmas.Option.none-some}
-use Rattle.vecmap_base.specs.{Kept.{KeepsKeys, Kept, Retains, RetainsPairs, ReturnsAtKey, TestsItems}, Pairs.lookup_by}
-use Rattle.vecmap_base.proofs.PairsLemmas.Filtered.{distinct_keys_kept, lookup_by_filtered, lookup_by_returned}
+-- What a closure leaves of a list of pairs: what lookups find, how many, which if it only tests them, and all if it
+-- keeps all.
+use Rattle.std.specs.{List.{AllByRecursion, IsDistinct}, Map.{IsKeyTest, keys_of}, Option.option_and_then}
+use Rattle.std.proofs.Common.{arith, ◌≡◌, ◌∙◌, Bool, true, false, List, [], ◌∷◌, None, Option, Some, ap, cond, if◌then◌else◌, subst, sym, ◌≤◌, filter, length, not}
+use Rattle.std.proofs.lemmas.{Bool.cases_Bool, Map.Keys.{IsDistinct-head, IsDistinct-tail}, Option.{none-some, same_Some}}
+use Rattle.vecmap_base.specs.Kept.{FiltersValues, KeepsKeys, Kept, ReturnsAtKey, ReturnsAtValue, Retains, RetainsPairs, TestsItems}
+use Rattle.vecmap_base.specs.Pairs.{HasDistinctKeys, lookup_by}
+
+module _ {F K V : Type 0} (R : F → K × V → Bool → K × V → F → Type 0) (same : KeepsKeys R) where
+  -- What holds of all keys holds of the keys that are kept.
+  all_keys_kept : (P : K → Type 0) (f g : F) (l m : List (K × V)) → Kept R f l m g → AllByRecursion P (keys_of l) → AllByRecursion P (keys_of m)
+  all_keys_kept P f g [] m k h = grind (arith)
+  all_keys_kept P f g (p ∷ ps) m k h = grind (arith, (all_keys_kept P k.2 g ps k.3 k.5 h.1))
+
+  -- Keys stay distinct among those that are kept.
+  pub distinct_keys_kept : (eq : K → K → Bool) (f g : F) (l m : List (K × V)) → Kept R f l m g → HasDistinctKeys eq l → HasDistinctKeys eq m
+  unfolding IsDistinct
+  distinct_keys_kept eq f g [] m k d = subst (HasDistinctKeys eq) (sym k.0) tt
+  distinct_keys_kept eq f g (p ∷ ps) m k d =
+      let apart : AllByRecursion (λ z. eq k.1.0 z ≡ false) (keys_of k.3) =
+      subst (λ y. AllByRecursion (λ z. eq y z ≡ false) (keys_of k.3)) (sym (same f p k.0 k.1 k.2 k.4)) (all_keys_kept (λ z. eq p.0 z ≡ false) k.2 g ps k.3 k.5 d.0) in
+      subst (HasDistinctKeys eq) (sym k.6) (by k.0 apart (distinct_keys_kept eq k.2 g ps k.3 k.5 d.1))
+    where
+      by : (b : Bool) → AllByRecursion (λ z. eq k.1.0 z ≡ false) (keys_of k.3) → HasDistinctKeys eq k.3 → HasDistinctKeys eq (if b then k.1 ∷ k.3 else k.3)
+      by true a r = (a, r)
+      by false a r = r
+
+  module _ (test : K → Bool) where
+    none_found : (l : List (K × V)) → AllByRecursion (λ y. test y ≡ false) (keys_of l) → lookup_by test l ≡ None
+    none_found [] h = λ _. None
+    none_found (p ∷ ps) h = ap (λ b. cond b (Some p.1) (lookup_by test ps)) h.0 ∙ none_found ps h.1
+
+    module _ (eq : K → K → Bool) (respects : IsKeyTest eq test) where
+      -- If the keys are distinct, a query that matches the first matches none that is kept of the others.
+      none_after : (p : K × V) (f g : F) (ps m : List (K × V)) → HasDistinctKeys eq (p ∷ ps) → test p.0 ≡ true → Kept R f ps m g → lookup_by test m ≡ None
+      none_after p f g ps m d e k = none_found m (all_keys_kept (λ y. test y ≡ false) f g ps m k (others (keys_of ps) (IsDistinct-head eq p.0 (keys_of ps) d)))
+        where
+          others : (ks : List K) → AllByRecursion (λ y. eq p.0 y ≡ false) ks → AllByRecursion (λ y. test y ≡ false) ks
+          others [] a = tt
+          others (y ∷ ys) a = (respects p.0 y e ∙ a.0, others ys a.1)
+
+      -- A query that found a value at which the closure returns `false` finds nothing.
+      pub value_gone : (v : V) (f g : F) (l m : List (K × V)) → HasDistinctKeys eq l → ReturnsAtValue R f v false → Kept R f l m g → lookup_by test l ≡ Some v → lookup_by test m ≡ None
+      value_gone v f g [] m d told k e = grind (arith, none-some)
+      value_gone v f g (p ∷ ps) m d told k e =
+          grind (arith, cases_Bool, same_Some, none-some, (none_after p k.2 g ps k.3 d), (value_gone v k.2 g ps k.3 (IsDistinct-tail eq p.0 (keys_of ps) d)))
+
+      -- A query finds what `h` makes of the value that it found.
+      pub lookup_by_filtered : (h : V → Option V) (f g : F) (l m : List (K × V)) → HasDistinctKeys eq l → FiltersValues R f h → Kept R f l m g → lookup_by test m ≡ option_and_then h (lookup_by test l)
+      lookup_by_filtered h f g [] m d told k = grind (arith)
+      lookup_by_filtered h f g (p ∷ ps) m d told k =
+          grind (arith, cases_Bool, (none_after p k.2 g ps k.3 d), (lookup_by_filtered h k.2 g ps k.3 (IsDistinct-tail eq p.0 (keys_of ps) d)))
+
+    -- If the closure returns the same at each key that a query matches, the query finds what it found, or nothing.
+    pub lookup_by_returned : (kept : Bool) (f g : F) (l m : List (K × V)) → ReturnsAtKey R f test kept → Kept R f l m g → lookup_by test m ≡ (if kept then lookup_by test l else None)
+    lookup_by_returned kept f g [] m told k = grind (arith, cases_Bool)
+    lookup_by_returned kept f g (p ∷ ps) m told k = grind (arith, cases_Bool, (lookup_by_returned kept k.2 g ps k.3))
+
+    -- A query that found a value at which the closure returns `true` finds it.
+    pub value_stays : (v : V) (f g : F) (l m : List (K × V)) → ReturnsAtValue R f v true → Kept R f l m g → lookup_by test l ≡ Some v → lookup_by test m ≡ Some v
+    value_stays v f g [] m told k e = grind (arith, none-some)
+    value_stays v f g (p ∷ ps) m told k e = grind (arith, cases_Bool, same_Some, none-some, (value_stays v k.2 g ps k.3))
 
 module _ {F X : Type 0} (R : F → X → Bool → X → F → Type 0) where
   pub length_kept : (f g : F) (l m : List X) → Kept R f l m g → length m ≤ length l

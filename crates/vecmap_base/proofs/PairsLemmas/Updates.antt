@@ -5,13 +5,13 @@ use Rattle.std.proofs.{lemmas.Bool.cases_Bool, lemmas.List.map-set, lemmas.List.
 use Rattle.std.proofs.{lemmas.List.Sorted.IsPermutation-insert, lemmas.Map.Entries.none_past_head, lemmas.Option.get_or_from_slice_get}
 use Rattle.std.proofs.lemmas.Map.{NonePasses, lookup-none, none_passes_from_lookup}
 use Rattle.std.proofs.lemmas.Map.Keys.{IsDistinct-cons, IsDistinct-tail}
-use Rattle.vecmap_base.specs.{Lookups.KeepsLookups, Lookups.UpdatesBy}
+use Rattle.vecmap_base.specs.Lookups.{KeepsLookups, UpdatesBy}
 use Rattle.vecmap_base.specs.Pairs.{HasDistinctKeys, index_by, index_of, lookup, lookup_by, put, put_at, put_key, value_at, with_pair, with_value, without_by}
+use Rattle.vecmap_base.proofs.DistinctLemmas.{distinct_replace}
 use Rattle.vecmap_base.proofs.PairsLemmas.ByIndex.{index_by_is, is_some_lookup_by, lookup_by_index, put_key_by_index, set_value_by_index, without_by_index}
-use Rattle.vecmap_base.proofs.PairsLemmas.Distinct.{distinct_keys_rearranged, distinct_keys_set_value, distinct_put}
-use Rattle.vecmap_base.proofs.{PairsLemmas.Keys.index_of_is, PairsLemmas.Lookups.{compares_with, same_answer, updates_of_put, updates_put}}
-use Rattle.vecmap_base.proofs.{DistinctLemmas.Additions.distinct_replace, PairsLemmas.Puts.put_absent}
-use Rattle.vecmap_base.proofs.{PairsLemmas.Order.lookup_by_rearranged, TakenLemmas.{TakesFirst, first_by_shift}}
+use Rattle.vecmap_base.proofs.PairsLemmas.Keys.{index_of_is}
+use Rattle.vecmap_base.proofs.PairsLemmas.LookupsAfterChanges.{distinct_keys_rearranged, distinct_keys_set_value, distinct_put, compares_with, same_answer, updates_of_put, updates_put, lookup_by_rearranged}
+use Rattle.vecmap_base.proofs.{PairsLemmas.Puts.put_absent, TakenLemmas.{TakesFirst, first_by_shift}}
 
 module _ {K V : Type 0} (test : K → Bool) (v : V) where
   -- A query finds the value that was written at its match.

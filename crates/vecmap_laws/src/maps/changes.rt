@@ -25,7 +25,7 @@ pub fn changes_are_undone<K: Eq, V>()
 /// A lookup in the pairs that a test selects finds what it found before, if the test selects that pair.
 ///
 /// The test must not tell equal keys apart. If it reads the values, the keys must be distinct.
-#[tactic(auto, using(crate::proofs::Filters::lookup_filter, crate::proofs::Filters::lookup_filter_keys))]
+#[tactic(auto, using(crate::proofs::KeptByTest::lookup_filter, crate::proofs::KeptByTest::lookup_filter_keys))]
 pub fn filters_keep_lookups<K: Eq, V>()
     ensures by_pair { (test : K × V → Bool)
         → ((x y : K) (v : V) → K.eq x y ≡ true → test (x, v) ≡ test (y, v))

@@ -6,7 +6,7 @@ ghost use Rattle.vecmap_base.specs.Pairs.{HasDistinctKeys, put, put_at, put_key,
 /// Distinct keys stay distinct after an insertion, after many insertions, and after a write of a value.
 ///
 /// The keys of the empty list are distinct, and so are the keys of what insertions make of it.
-#[tactic(auto, using(vecmap_base::proofs::DistinctLemmas::Absent::distinct_none, vecmap_base::proofs::PairsLemmas::Distinct::distinct_put, crate::proofs::DistinctKeys::distinct_puts, crate::proofs::DistinctKeys::distinct_put_at, crate::proofs::DistinctKeys::distinct_keys_with_value, vecmap_base::proofs::PairsLemmas::Updates::distinct_put_key))]
+#[tactic(auto, using(vecmap_base::proofs::DistinctLemmas::distinct_none, vecmap_base::proofs::PairsLemmas::LookupsAfterChanges::distinct_put, crate::proofs::DistinctKeys::distinct_puts, crate::proofs::DistinctKeys::distinct_put_at, crate::proofs::DistinctKeys::distinct_keys_with_value, vecmap_base::proofs::PairsLemmas::Updates::distinct_put_key))]
 pub fn insertion_keeps_keys_distinct<K: Eq, V>()
     ensures empty { HasDistinctKeys {V = V} K.eq [] }
     ensures put { (l : List (K × V)) → HasDistinctKeys K.eq l → (k : K) (v : V)
@@ -26,7 +26,7 @@ pub fn insertion_keeps_keys_distinct<K: Eq, V>()
 ///
 /// The removal is by a test of the keys or by index. It shifts the later pairs or swaps in the last one. The test is
 /// the `==` of a key, of a text, or of a query type of your own.
-#[tactic(auto, using(crate::proofs::DistinctKeys::distinct_keys_without, vecmap_base::proofs::PairsLemmas::Distinct::distinct_keys_remove, crate::proofs::DistinctKeys::distinct_keys_swap_without_by, crate::proofs::DistinctKeys::distinct_keys_swap_without_key, crate::proofs::DistinctKeys::distinct_keys_swap_without, crate::proofs::DistinctKeys::distinct_keys_take))]
+#[tactic(auto, using(crate::proofs::DistinctKeys::distinct_keys_without, vecmap_base::proofs::PairsLemmas::LookupsAfterChanges::distinct_keys_remove, crate::proofs::DistinctKeys::distinct_keys_swap_without_by, crate::proofs::DistinctKeys::distinct_keys_swap_without_key, crate::proofs::DistinctKeys::distinct_keys_swap_without, crate::proofs::DistinctKeys::distinct_keys_take))]
 pub fn removal_keeps_keys_distinct<K: Eq, V>()
     ensures by_test { (l : List (K × V)) → HasDistinctKeys K.eq l → (test : K → Bool)
         → HasDistinctKeys K.eq (without_by test l) }
@@ -43,7 +43,7 @@ pub fn removal_keeps_keys_distinct<K: Eq, V>()
 {}
 
 /// Distinct keys stay distinct in a part of the list, without a part of it, and in the pairs that pass a test.
-#[tactic(auto, using(crate::proofs::DistinctParts::distinct_keys_drop, crate::proofs::DistinctParts::distinct_keys_slice_range, crate::proofs::DistinctParts::distinct_keys_remove_range, crate::proofs::DistinctParts::distinct_keys_filter))]
+#[tactic(auto, using(crate::proofs::DistinctKeys::distinct_keys_drop, crate::proofs::DistinctKeys::distinct_keys_slice_range, crate::proofs::DistinctKeys::distinct_keys_remove_range, crate::proofs::DistinctKeys::distinct_keys_filter))]
 pub fn parts_keep_keys_distinct<K: Eq, V>()
     ensures back { (l : List (K × V)) → HasDistinctKeys K.eq l → (n : ℕ)
         → HasDistinctKeys K.eq (drop n l) }

@@ -1,7 +1,7 @@
 //! Laws of `==` of maps.
 ghost use Rattle.std.specs.{List.Sorted.IsPermutation, Option.option_eq, Prelude.{IsTrue, List, false, length, ◌↔◌, ◌≡◌, ◌≢◌}};
 ghost use Rattle.vecmap_base.specs.{Equality.{counts_agree, has_same_counts}, Pairs.{HasDistinctKeys, lookup}};
-ghost use Rattle.vecmap_laws.specs.Agreement.{agrees};
+ghost use Rattle.vecmap_laws.specs.MapLaws.{agrees};
 
 /// Equality of maps is reflexive, symmetric and transitive, even with duplicate keys.
 pub fn equality_is_an_equivalence<K: Eq, V: Eq>()

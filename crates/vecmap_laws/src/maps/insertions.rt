@@ -4,7 +4,7 @@ ghost use Rattle.std.specs.Prelude.{IsSome, List, None, Some, [], false, if◌th
 ghost use Rattle.vecmap_base.specs.Items.{add, adds, item_index};
 ghost use Rattle.vecmap_base.specs.Lookups.{MakesPairs};
 ghost use Rattle.vecmap_base.specs.Pairs.{HasDistinctKeys, index_of, index_or_length, lookup, put, put_at, put_key, puts, without_key};
-ghost use Rattle.vecmap_laws.specs.FirstValue.{put_new, puts_new};
+ghost use Rattle.vecmap_laws.specs.MapLaws.{put_new, puts_new};
 ghost use Rattle.vecmap_map.specs.{Contents.Contents, Entry.{AreEntriesWith, entry_index_of, entry_key, entry_map}, MapBulk.Puts};
 ghost use Rattle.vecmap_map.specs.declared.entry.Entry.{Entry};
 
@@ -37,7 +37,7 @@ pub fn insertions_are_found<K: Eq, V>()
 ///
 /// A lookup finds the last value that the pairs give its key, or else the old one. No key moves, and new keys are
 /// appended in order. Pairs of distinct keys become the list of a map if they are inserted into an empty one.
-#[tactic(auto, using(crate::proofs::Puts::puts_append, vecmap_base::proofs::PairsLemmas::Keys::keys_of_puts, vecmap_base::proofs::PairsLemmas::Parts::puts_distinct, crate::proofs::Parts::lookup_made_last, crate::proofs::Parts::index_of_puts_kept, crate::proofs::Parts::index_of_puts))]
+#[tactic(auto, using(crate::proofs::PutLemmas::puts_append, vecmap_base::proofs::PairsLemmas::Keys::keys_of_puts, vecmap_base::proofs::PairsLemmas::ManyPairs::puts_distinct, crate::proofs::TwoParts::lookup_made_last, crate::proofs::TwoParts::index_of_puts_kept, crate::proofs::TwoParts::index_of_puts))]
 pub fn bulk_insertions_are_single_ones<K: Eq, V>()
     ensures one { (l : List (K × V)) (p : K × V) (pairs : List (K × V))
         → puts K.eq l (p ∷ pairs) ≡ puts K.eq (put K.eq l p.0 p.1) pairs }
@@ -67,7 +67,7 @@ pub fn bulk_insertions_are_single_ones<K: Eq, V>()
 /// An insertion by an entry leaves what `insert` leaves, but a new key may be stored as a clone.
 ///
 /// `or_insert` leaves an existing value as it is.
-#[tactic(auto, using(crate::proofs::EntryPuts::entries_with_is_put, crate::proofs::EntryPuts::new_entries_with, vecmap_base::proofs::PairsLemmas::Puts::put_stored))]
+#[tactic(auto, using(crate::proofs::PutLemmas::entries_with_is_put, crate::proofs::PutLemmas::new_entries_with, vecmap_base::proofs::PairsLemmas::Puts::put_stored))]
 pub fn entries_insert_alike<K: Eq + Clone, V>()
     ensures present { (e : Entry K V) (v : V) (l : List (K × V))
         → entry_index_of e ≡ index_of K.eq (entry_map e).entries (entry_key e) → IsSome (entry_index_of e)
@@ -109,7 +109,7 @@ pub fn first_values_win<K: Eq, V>()
 ///
 /// This holds for a new key, and for every key if all keys are distinct. The pairs of the other keys keep their order.
 /// An index past the end counts as the end.
-#[tactic(auto, using(crate::proofs::OtherPairs::put_at_is_insert, crate::proofs::OtherPairs::put_at_past, crate::proofs::OtherPairs::put_back, crate::proofs::Puts::put_at_absent))]
+#[tactic(auto, using(crate::proofs::OtherPairs::put_at_is_insert, crate::proofs::OtherPairs::put_at_past, crate::proofs::OtherPairs::put_back, crate::proofs::PutLemmas::put_at_absent))]
 pub fn insertions_at_an_index_are_found<K: Eq, V>()
     ensures new_key { (l : List (K × V)) (i : ℕ) (k : K) (v : V) → index_of K.eq l k ≡ None → (q : K)
         → lookup K.eq (put_at K.eq l i k v) q ≡ (if K.eq k q then Some v else lookup K.eq l q) }

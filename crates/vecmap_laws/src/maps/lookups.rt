@@ -4,7 +4,7 @@ ghost use Rattle.vecmap_base.specs.Pairs.{HasDistinctKeys, index_of, lookup, loo
 
 /// Equal keys have the same value and the same index. A lookup finds a value exactly if its key has an index, and finds
 /// the value at this index.
-#[tactic(auto, using(crate::proofs::Lookups::lookup_congr, crate::proofs::AfterPuts::index_of_congr, crate::proofs::AfterPuts::is_some_lookup, crate::proofs::AfterPuts::lookup_at))]
+#[tactic(auto, using(crate::proofs::LookupLemmas::lookup_congr, crate::proofs::AfterPuts::index_of_congr, crate::proofs::AfterPuts::is_some_lookup, crate::proofs::AfterPuts::lookup_at))]
 pub fn equal_keys_find_the_same<K: Eq, V>()
     ensures value { (l : List (K × V)) (x y : K) → K.eq x y ≡ true
         → lookup K.eq l x ≡ lookup K.eq l y }

@@ -77,7 +77,7 @@ pub fn moves_keep_lookups<K: Eq, V>()
 {}
 
 /// If all keys are distinct, a list that is split is whole again once the second part is appended to the first.
-#[tactic(auto, using(crate::proofs::Puts::puts_restore))]
+#[tactic(auto, using(crate::proofs::PutLemmas::puts_restore))]
 pub fn appending_undoes_splitting<K: Eq, V>()
     ensures { (l : List (K × V)) → HasDistinctKeys K.eq l → (at : ℕ)
         → puts K.eq (take at l) (drop at l) ≡ l }

@@ -6,7 +6,7 @@ ghost use Rattle.vecmap_map.specs.Contents.{Contents, with_value_by, with_value_
 /// An insertion of the value that its key already has changes nothing.
 ///
 /// A write of the value of a key that is present, as through `get_mut`, is an insertion.
-#[tactic(auto, using(crate::proofs::AfterPuts::put_same, crate::proofs::WriteLemmas::with_value_of_is_put))]
+#[tactic(auto, using(crate::proofs::AfterPuts::put_same, crate::proofs::QueryLemmas::with_value_of_is_put))]
 pub fn writes_are_insertions<K: Eq, V>()
     ensures unchanged { (l : List (K × V)) (k : K) (v : V) → lookup K.eq l k ≡ Some v
         → put K.eq l k v ≡ l }

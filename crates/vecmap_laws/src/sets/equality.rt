@@ -11,13 +11,13 @@ pub fn equality_is_an_equivalence<T: Eq>()
 {}
 
 /// Sets of the same elements in another order are equal.
-#[tactic(auto, using(crate::proofs::SetRelations::rearranged_sets_equal))]
+#[tactic(auto, using(crate::proofs::AlgebraLemmas::rearranged_sets_equal))]
 pub fn equality_ignores_order<T: Eq>()
     ensures { (a b : List T) → IsPermutation a b → IsTrue (has_same_items T.eq a b) }
 {}
 
 /// Two sets are equal exactly if each is a subset of the other.
-#[tactic(auto, using(crate::proofs::SetRelations::equal_if_within_each_other))]
+#[tactic(auto, using(crate::proofs::AlgebraLemmas::equal_if_within_each_other))]
 pub fn equality_is_inclusion_both_ways<T: Eq>()
     ensures { (a b : List T)
         → IsTrue (has_same_items T.eq a b)
@@ -36,7 +36,7 @@ pub fn lengths_tell_of_inclusion<T: Eq>()
 {}
 
 /// Whether two sets are disjoint is the same from either side.
-#[tactic(auto, using(vecmap_base::proofs::EqualityLemmas::Relations::both_empty_turned))]
+#[tactic(auto, using(vecmap_base::proofs::EqualityLemmas::Sets::both_empty_turned))]
 pub fn disjointness_is_symmetric<T: Eq>()
     ensures { (a b : List T) → (both T.eq a b ≡ []) ↔ (both T.eq b a ≡ []) }
 {}

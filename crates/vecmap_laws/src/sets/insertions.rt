@@ -2,14 +2,14 @@
 ghost use Rattle.std.specs.{Iterator.Runs.CollectsByExtend, List.IsDistinct, Option.option_or, Set.is_member};
 ghost use Rattle.std.specs.Prelude.{List, Some, [], false, if◌then◌else◌, length, option_map, slice_get, true, unwrap_or, ℕ, ◌++◌, ◌+◌, ◌<◌, ◌∷◌, ◌≡◌, ◌≤◌};
 ghost use Rattle.vecmap_base.specs.Items.{add, adds, item_index, only};
-ghost use Rattle.vecmap_set.specs.{Contents.Contents, SetBulk.{Adds, AddsItems}};
+ghost use Rattle.vecmap_set.specs.{SetBulk.{Adds, AddsItems}, SetContents.Contents};
 
 /// An addition moves no element.
 ///
 /// An added element has the index of the existing element that is equal to it, or the last index. All other elements
 /// keep their indices. If an equal element is present, the addition changes nothing; otherwise the new element is
 /// appended.
-#[tactic(auto, using(crate::proofs::ItemIndices::item_index_add, crate::proofs::ItemIndices::slice_get_add, vecmap_base::proofs::ItemsLemmas::Additions::add_present, vecmap_base::proofs::ItemsLemmas::Additions::add_absent))]
+#[tactic(auto, using(crate::proofs::ItemLemmas::item_index_add, crate::proofs::ItemLemmas::slice_get_add, vecmap_base::proofs::ItemsLemmas::Additions::add_present, vecmap_base::proofs::ItemsLemmas::Additions::add_absent))]
 pub fn additions_move_nothing<T: Eq>()
     ensures index { (s : List T) (x y : T)
         → item_index T.eq (add T.eq s x) y
@@ -23,7 +23,7 @@ pub fn additions_move_nothing<T: Eq>()
 
 /// Adding many elements is the same as adding each of them in order. Distinct elements that are added to an empty set
 /// are its list.
-#[tactic(auto, using(crate::proofs::ItemMembers::adds_append, vecmap_base::proofs::ItemsLemmas::Additions::adds_distinct))]
+#[tactic(auto, using(crate::proofs::ItemLemmas::adds_append, vecmap_base::proofs::ItemsLemmas::Additions::adds_distinct))]
 pub fn bulk_additions_are_single_ones<T: Eq>()
     ensures one { (s : List T) (x : T) (xs : List T)
         → adds T.eq s (x ∷ xs) ≡ adds T.eq (add T.eq s x) xs }
@@ -34,7 +34,7 @@ pub fn bulk_additions_are_single_ones<T: Eq>()
 /// Many additions move no element.
 ///
 /// An element that is present keeps its index. The new elements that are absent are appended, each once and in order.
-#[tactic(auto, using(crate::proofs::ItemMembers::adds_as_append, crate::proofs::ItemMembers::slice_get_adds, crate::proofs::ItemMembers::item_index_adds_kept, crate::proofs::ItemMembers::item_index_adds))]
+#[tactic(auto, using(crate::proofs::ItemLemmas::adds_as_append, crate::proofs::ItemLemmas::slice_get_adds, crate::proofs::ItemLemmas::item_index_adds_kept, crate::proofs::ItemLemmas::item_index_adds))]
 pub fn bulk_additions_move_nothing<T: Eq>()
     ensures appended { (s xs : List T) → adds T.eq s xs ≡ s ++ adds T.eq [] (only T.eq xs s) }
     ensures element { (s xs : List T) (i : ℕ) → i < length s

@@ -1,12 +1,12 @@
 //! Laws of what removals leave: which elements, and the length.
 ghost use Rattle.std.specs.{List.IsDistinct, Prelude.{Bool, List, drop, filter, take, ℕ, ◌-◌, ◌≡◌}};
-ghost use Rattle.vecmap_base.specs.{Asked.CallsAtItem, Items.adds, Kept.{Kept, TestsItems}};
+ghost use Rattle.vecmap_base.specs.{FnMutCalls.CallsAtItem, Items.adds, Kept.{Kept, TestsItems}};
 
 /// `retain` leaves the elements that pass a test, if the closure returns the result of the test.
 ///
 /// In `filtered` the closure stays in its state, such as the values that it captures. In `filtered_by_states` its state
 /// may change, but not the test.
-#[tactic(auto, using(vecmap_base::proofs::PairsLemmas::Retained::filter_kept, crate::proofs::KeptLemmas::kept_by_states))]
+#[tactic(auto, using(vecmap_base::proofs::PairsLemmas::Retained::filter_kept, crate::proofs::KeptByTest::kept_by_states))]
 pub fn retain_filters<T, F: FnMut(&T) -> bool>(_keep: &F)
     ensures filtered { (f g : F) (l m : List T) (test : T → Bool)
         → TestsItems (CallsAtItem F.FnMut) f test → Kept (CallsAtItem F.FnMut) f l m g

@@ -2,8 +2,7 @@
 use Rattle.std.proofs.{Common.{◌≡◌, [], ap, option_map, string_bytes, refl, ◌∙◌}, lemmas.Result.{IfOk-weaker, on_err_weaker, on_ok_weaker}}
 use Rattle.std.specs.Str.{str_eq_ignore_ascii_case}
 use Rattle.vecmap.specs.Pairs.{put}
-use Rattle.attr_doc.proofs.ChangeLemmas.{at_ok, section_stays, set_new, set_there}
-use Rattle.attr_doc.proofs.TextLemmas.{has_text, no_text, text_of_none, text_of_some}
+use Rattle.attr_doc.proofs.{ChangeLemmas.{at_ok, section_stays, set_new, set_there}, TwoLookups.{has_text, no_text, text_of_none, text_of_some}}
 use Rattle.attr_doc.proofs.set.set_text.Goals as goal
 
 pub returns-in-Some-clause-err : goal.returns-in-Some-clause-err

@@ -1,6 +1,6 @@
 -- The loop keeps that the list is distinct exactly if its rest from `i` on is. A duplicate refutes both sides at once.
 use Rattle.std.proofs.Common.{◌+◌, is_some, refl, sym, ap, ◌∙◌, true≢false}
-use Rattle.vecmap_base.proofs.{DistinctLemmas.Walk.{distinct_more, repeat_at, distinct_all}, ItemsLemmas.Indices.is_some_item_index_rest}
+use Rattle.vecmap_base.proofs.{DistinctLemmas.{distinct_more, repeat_at, distinct_all}, ItemsLemmas.Members.is_some_item_index_rest}
 use Rattle.vecmap_base.proofs.distinct.items_distinct.Goals as goal
 
 pub returns-then-is_some : goal.returns-then-is_some

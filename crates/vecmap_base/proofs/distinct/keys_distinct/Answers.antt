@@ -1,8 +1,7 @@
 -- As in `items_distinct`, on the list of the keys: it is distinct exactly if its rest from `i` on is.
 use Rattle.std.proofs.Common.{◌+◌, ◌<◌, ◌≤◌, get_or, is_some, length, refl, sym, ap, ◌∙◌, true≢false, arith}
 use Rattle.std.{proofs.lemmas.Map.Entries.length-keys_of, specs.Map.keys_of}
-use Rattle.vecmap_base.proofs.{DistinctLemmas.Walk.{distinct_more, repeat_at, distinct_all}, PairsLemmas.Indices.is_some_index_of_rest}
-use Rattle.vecmap_base.proofs.PairsLemmas.Values.{key_at}
+use Rattle.vecmap_base.proofs.{DistinctLemmas.{distinct_more, repeat_at, distinct_all}, PairsLemmas.{ByIndex.is_some_index_of_rest, Values.key_at}}
 use Rattle.vecmap_base.proofs.distinct.keys_distinct.Goals as goal
 
 pub returns-then-is_some : goal.returns-then-is_some

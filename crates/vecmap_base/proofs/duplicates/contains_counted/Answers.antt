@@ -1,5 +1,5 @@
 use Rattle.std.{specs.Set.is_member, proofs.{Common.{◌≡◌, ◌∙◌, ap, arith, false, sym}, lemmas.List.take_all}}
-use Rattle.vecmap_base.proofs.DuplicatesLemmas.Comparisons.{search_cost_absent, search_cost_at}
+use Rattle.vecmap_base.proofs.DuplicatesLemmas.ComparisonCounts.{search_cost_absent, search_cost_at}
 use Rattle.vecmap_base.proofs.duplicates.contains_counted.Goals as goal
 
 pub returns-then-same-clause-counted : goal.returns-then-same-clause-counted

@@ -1,6 +1,6 @@
 use Rattle.std.proofs.{Common.{◌∙◌, ap, arith, position, refl, rules, sym, ◌+◌}, lemmas.List.take_all}
-use Rattle.vecmap_base.proofs.{IndexLemmas.{none_before_next, position_at}, PairsLemmas.ByIndex.index_by_is}
-use Rattle.vecmap_base.proofs.DuplicatesLemmas.Comparisons.{key_search_absent, key_search_found}
+use Rattle.vecmap_base.proofs.{DuplicatesLemmas.ComparisonCounts.{key_search_absent, key_search_found}, IndexLemmas.{none_before_next, position_at}}
+use Rattle.vecmap_base.proofs.PairsLemmas.ByIndex.{index_by_is}
 use Rattle.vecmap_base.proofs.duplicates.find_counted.Goals as goal
 
 pub loop-index-preserved : goal.loop-index-preserved

@@ -3,7 +3,7 @@
 use Rattle.std.{specs.Set.is_member, proofs.Common.{◌≡◌, ◌+◌, ◌<◌, take, length, get_or, [], ◌∷◌, ◌++◌, sym, ap, ◌∙◌, arith}}
 use Rattle.std.proofs.lemmas.List.{length_push, length-take, take_all, Sorted.IsPermutation-trans}
 use Rattle.vecmap_base.specs.{Comparisons.{comparisons, search_cost}, Items.adds}
-use Rattle.vecmap_base.proofs.DuplicatesLemmas.{Comparisons.{comparisons_below, comparisons_more}, Gather.{front_swapped, rest_more}}
+use Rattle.vecmap_base.proofs.DuplicatesLemmas.{ComparisonCounts.{comparisons_below, comparisons_more}, Gather.{front_swapped, rest_more}}
 use Rattle.vecmap_base.proofs.ItemsLemmas.Additions.{adds_more, add_absent, add_present}
 use Rattle.vecmap_base.proofs.duplicates.gather_items.Goals.{else-not-contains_counted, then-not-contains_counted}
 use Rattle.vecmap_base.proofs.duplicates.gather_items.Goals as goal

@@ -4,8 +4,8 @@ use Rattle.std.proofs.Common.{◌≡◌, ◌+◌, ◌<◌, None, take, length, g
 use Rattle.std.specs.{List.Sorted.IsPermutation, Map.keys_of, Map.values_of}
 use Rattle.std.proofs.lemmas.{Map.Entries.length-values_of, List.length_push, List.length-take, List.take_all}
 use Rattle.std.proofs.lemmas.List.Sorted.{IsPermutation-trans, IsPermutation-map, IsPermutation-swap}
-use Rattle.vecmap_base.specs.{Comparisons.comparisons, Comparisons.search_cost, Pairs.index_of, Pairs.put, Pairs.puts}
-use Rattle.vecmap_base.proofs.DuplicatesLemmas.{Comparisons.key_comparisons_below, Comparisons.key_comparisons_more, Gather.front_put, Gather.front_swapped, Gather.rest_more}
+use Rattle.vecmap_base.specs.{Comparisons.{comparisons, search_cost}, Pairs.{index_of, put, puts}}
+use Rattle.vecmap_base.proofs.DuplicatesLemmas.{ComparisonCounts.{key_comparisons_below, key_comparisons_more}, Gather.{front_put, front_swapped, rest_more}}
 use Rattle.vecmap_base.proofs.{PairsLemmas.Puts.{puts_more, put_absent}, duplicates.gather_pairs.Goals.{in-None, in-Some}}
 use Rattle.vecmap_base.proofs.duplicates.gather_pairs.Goals as goal
 

@@ -2,7 +2,7 @@
 -- side are enough.
 use Rattle.std.proofs.{Common.{◌≡◌, [], arith, drop, length, sym, ◌∙◌}, lemmas.List.{drop_all, length-drop, take_rest}}
 use Rattle.vecmap_base.specs.Equality.{counts_agree, has_same_counts}
-use Rattle.vecmap_base.proofs.EqualityLemmas.{Partial.{partial_map_equal_by_half, partial_map_lengths_differ}, Fronts.past_front}
+use Rattle.vecmap_base.proofs.EqualityLemmas.{Maps.past_front, Partial.{partial_map_equal_by_half, partial_map_lengths_differ}}
 use Rattle.vecmap_base.proofs.equality.pairs_equal.Goals as goal
 
 pub returns-then-a-b : goal.returns-then-a-b

@@ -1,4 +1,4 @@
-use Rattle.vecmap_base.proofs.EqualityLemmas.Relations.{apart_by_walk, apart_by_walk_turned}
+use Rattle.vecmap_base.proofs.EqualityLemmas.Sets.{apart_by_walk, apart_by_walk_turned}
 use Rattle.vecmap_base.proofs.relations.are_disjoint.Goals as goal
 
 pub returns-clause-disjoint : goal.returns-clause-disjoint

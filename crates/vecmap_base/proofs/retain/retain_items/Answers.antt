@@ -1,4 +1,4 @@
-use Rattle.vecmap_base.{specs.Asked.CallsAtItem, proofs.ItemsLemmas.Filtered.any_filtered}
+use Rattle.vecmap_base.{specs.FnMutCalls.CallsAtItem, proofs.ItemsLemmas.Members.any_filtered}
 use Rattle.vecmap_base.proofs.retain.retain_items.Goals as goal
 
 pub returns-clause-matches : goal.returns-clause-matches

@@ -1,4 +1,4 @@
-use Rattle.vecmap_base.{specs.Asked.CallsAtPair, proofs.PairsLemmas.Retained.retains_pairs}
+use Rattle.vecmap_base.{specs.FnMutCalls.CallsAtPair, proofs.PairsLemmas.Retained.retains_pairs}
 use Rattle.vecmap_base.proofs.retain.retain_pairs.Goals as goal
 
 pub returns-clause-selection : goal.returns-clause-selection

@@ -1,4 +1,4 @@
-use Rattle.vecmap_base.{specs.Asked.CallsAtPairMut, proofs.PairsLemmas.Retained.retains_pairs}
+use Rattle.vecmap_base.{specs.FnMutCalls.CallsAtPairMut, proofs.PairsLemmas.Retained.retains_pairs}
 use Rattle.vecmap_base.proofs.retain.retain_pairs_mut.Goals as goal
 
 pub returns-clause-selection : goal.returns-clause-selection

@@ -1,4 +1,4 @@
-use Rattle.vecmap_base.{specs.Orders.side, proofs.SearchLemmas.{parted_err, parted_ok}}
+use Rattle.vecmap_base.{specs.FnCalls.side, proofs.SearchLemmas.{parted_err, parted_ok}}
 use Rattle.vecmap_base.proofs.search.partition_point.Goals as goal
 
 pub returns-in-Ok-clause-index : goal.returns-in-Ok-clause-index

@@ -1,5 +1,5 @@
 use Rattle.std.proofs.Common.{◌≡◌, ℕ, ◌+◌, ◌^◌, ◌<◌, ◌≤◌, Ordering, length}
-use Rattle.vecmap_base.{specs.Orders.ReturnsAtIndex, proofs.SearchLemmas.Narrowed}
+use Rattle.vecmap_base.{specs.FnCalls.ReturnsAtIndex, proofs.SearchLemmas.Narrowed}
 use Rattle.vecmap_base.proofs.search.search_by_index.Given as goal
 
 abbrev pub invariant-loop-size : goal.invariant-loop-size

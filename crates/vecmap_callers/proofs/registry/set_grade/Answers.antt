@@ -1,5 +1,5 @@
 use Rattle.std.proofs.Common.{rules}
-use Rattle.vecmap_laws.specs.TextPairs.{has_texts}
+use Rattle.vecmap_laws.specs.MapLaws.{has_texts}
 use Rattle.vecmap_callers.proofs.registry.set_grade.Goals as goal
 
 pub returns-clause-others : goal.returns-clause-others

@@ -1,4 +1,4 @@
-use Rattle.vecmap_laws.proofs.{Queries.{same_text, same_texts, text_respects}, WriteLemmas.texts_apart}
+use Rattle.vecmap_laws.proofs.QueryLemmas.{same_text, same_texts, text_respects, texts_apart}
 use Rattle.vecmap_laws.proofs.lists.texts_are_queries.Goals as goal
 
 pub returns : goal.returns

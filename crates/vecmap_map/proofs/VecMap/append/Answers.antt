@@ -1,5 +1,5 @@
 use Rattle.std.proofs.{lemmas.Grind.common_steps, Common.arith}
-use Rattle.vecmap_base.proofs.PairsLemmas.Parts.{joins_of_puts}
+use Rattle.vecmap_base.proofs.PairsLemmas.ManyPairs.{joins_of_puts}
 use Rattle.vecmap_map.proofs.VecMap.append.Goals as goal
 
 pub returns-clause-insertion : goal.returns-clause-insertion

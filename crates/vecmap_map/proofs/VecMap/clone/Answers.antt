@@ -1,5 +1,5 @@
 use Rattle.std.proofs.lemmas.Map.Entries.{entries_from_clone}
-use Rattle.vecmap_base.proofs.PairsLemmas.Clones.{lookup_by_cloned}
+use Rattle.vecmap_base.proofs.CloneLemmas.{lookup_by_cloned}
 use Rattle.vecmap_map.proofs.VecMap.clone.Goals as goal
 
 pub returns : goal.returns

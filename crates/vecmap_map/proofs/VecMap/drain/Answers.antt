@@ -1,5 +1,5 @@
 use Rattle.std.proofs.{Common.arith, lemmas.{Grind.common_steps, List.drop_all}}
-use Rattle.vecmap_base.proofs.PairsLemmas.Parts.{keeps_front_of}
+use Rattle.vecmap_base.proofs.PairsLemmas.ManyPairs.{keeps_front_of}
 use Rattle.vecmap_map.proofs.VecMap.drain.Goals as goal
 
 pub returns-clause-front : goal.returns-clause-front

@@ -1,5 +1,5 @@
 use Rattle.std.proofs.Common.{refl, ◌∙◌}
-use Rattle.vecmap_map.proofs.EntryLemmas.Puts.{entries_swap_without_by, entries_with_put, entries_without_by, entry_value_is}
+use Rattle.vecmap_map.proofs.EntryLemmas.{entries_swap_without_by, entries_with_put, entries_without_by, entry_value_is}
 use Rattle.vecmap_base.proofs.{InsertionLemmas.sets_key, PairsLemmas.AtIndices.shifts_without, RemovalLemmas.{removes_by, swap_removes_by}}
 use Rattle.vecmap_map.proofs.VecMap.entry.Goals as goal
 

@@ -1,6 +1,6 @@
 -- The call stops at the insertion that runs out of memory.
 use Rattle.std.proofs.{Common.{arith, inr, rules}, iter.runs.Consumers.total_runs, lemmas.{Grind.common_steps, Result.err_from_is_err_and}}
-use Rattle.vecmap_base.{specs.Lookups.Joins, proofs.PairsLemmas.{Parts.joins_of_puts, Puts.length_put_at_most}}
+use Rattle.vecmap_base.{specs.Lookups.Joins, proofs.PairsLemmas.{ManyPairs.joins_of_puts, Puts.length_put_at_most}}
 use Rattle.vecmap_map.proofs.VecMap.extend.Goals as goal
 
 pub loop-key-preserved-in_ok-insert : goal.loop-key-preserved-in_ok-insert

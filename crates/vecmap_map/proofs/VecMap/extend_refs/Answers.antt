@@ -3,7 +3,7 @@
 use Rattle.std.proofs.{Common.{◌∙◌, ap, arith, inr, map, rules, sym, true≢false}, iter.runs.Consumers.total_runs, lemmas.{Grind.common_steps, Map.Entries.entries_from_clone, Result.err_from_is_err_and}}
 use Rattle.std.specs.Map.Iter.{deref_pair}
 use Rattle.vecmap_base.specs.{Clones.{ClonesAreSame, IsPairClone}, Lookups.Joins, Pairs.{put, puts as pairs_put}}
-use Rattle.vecmap_base.proofs.{CloneLemmas.lent_clone_taken, PairsLemmas.Puts.length_put_at_most, PairsLemmas.Parts.joins_of_puts}
+use Rattle.vecmap_base.proofs.{CloneLemmas.lent_clone_taken, PairsLemmas.{ManyPairs.joins_of_puts, Puts.length_put_at_most}}
 use Rattle.vecmap_map.proofs.VecMap.extend_refs.Goals as goal
 
 pub loop-key-preserved : goal.loop-key-preserved

@@ -5,11 +5,10 @@ use Steps.{SProp, id⊢, ftrue, ‵, raw, ◌⊛◌, some, later, ◌$◌, ◌�
 use Steps.{enter, lit, addr, stop, no_more, and_then, returns, alloc_all, pass_all, free_all, look_at, get, through, sets, lands_as, proved, leaves}
 use Steps.{no, RattleType, Is, type_at, plain, RefMutOf, usize, MutBor, mut_vals, mut_Tells, MutRef, uint_vals, uint_Makes, param, layouts, nothing, heard, owned}
 use Steps.{fact, ◌⊑◌, tables, calls_at, Lasts, lasts, at_exit, on_entry, alive, Vals, triple_of, framed, Stays, stay_dropped, walk_of, Goes-dropped}
-use Rattle.vecmap_map.proofs.{LentLemmas.Parts.{beside_facts, by_ends}, VecMap.first_mut.Statement.statement}
-use Rattle.vecmap_map.specs.{contracts.VecMap.the_row, contracts.VecMap.first_mut.{ended, clauses}}
+use Rattle.vecmap_map.specs.contracts.VecMap.{the_row, first_mut.{ended, clauses, Key.name as #self}}
+use Rattle.vecmap_map.proofs.{LentLemmas.LentParts.{beside_facts, by_ends}, VecMap.first_mut.Statement.statement}
 use Rattle.vecmap_map.specs.contracts.VecMap.get_index_mut as A
 use Rattle.vecmap_map.proofs.VecMap.get_index_mut.Met as A-thm
-use Rattle.vecmap_map.specs.contracts.VecMap.first_mut.Key.{name as #self}
 use Rattle.vecmap_map.proofs.VecMap.first_mut.Code as code
 
 pub first_mut_spec : {M : Type 1} → statement M

@@ -1,5 +1,5 @@
 use Rattle.std.proofs.{Common.{◌∙◌, ap}, iter.runs.Consumers.total_runs}
-use Rattle.vecmap_base.{specs.{Lookups.MakesPairs, Pairs.puts}, proofs.PairsLemmas.Parts.makes_pairs}
+use Rattle.vecmap_base.{specs.{Lookups.MakesPairs, Pairs.puts}, proofs.PairsLemmas.ManyPairs.makes_pairs}
 use Rattle.vecmap_map.proofs.VecMap.from_iter.Goals as goal
 
 pub returns-clause-list : goal.returns-clause-list

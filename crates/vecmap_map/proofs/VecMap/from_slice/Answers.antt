@@ -1,6 +1,6 @@
 use Rattle.std.proofs.{Common.{◌+◌, ◌∷◌, [], ◌++◌, ap, arith, sym, subst, take, ◌∙◌, ◌≡◌}, lemmas.List.{take_all, take_more}}
 use Rattle.vecmap_base.{specs.{Clones.{AreClones, IsPairClone}, Pairs.put}, proofs.CloneLemmas.{TakesClones, clone_taken}}
-use Rattle.vecmap_map.proofs.MadeLemmas.{makes_clones}
+use Rattle.vecmap_map.proofs.ContentsLemmas.{makes_clones}
 use Rattle.vecmap_map.proofs.VecMap.from_slice.Goals as goal
 
 pub loop-pair-preserved : goal.loop-pair-preserved

@@ -1,4 +1,4 @@
-use Rattle.vecmap_base.proofs.PairsLemmas.Parts.{makes_pairs}
+use Rattle.vecmap_base.proofs.PairsLemmas.ManyPairs.{makes_pairs}
 use Rattle.vecmap_map.proofs.VecMap.from_vec_counted.Goals as goal
 
 pub returns-clause-insertion : goal.returns-clause-insertion

@@ -12,15 +12,13 @@ use denote.Param.Laws.{copied_laws}
 use Rattle.vecmap_base.specs.Pairs.{index_by, lookup_pair_by}
 use Rattle.vecmap_base.proofs.PairsLemmas.ByIndex.{lookup_pair_by_index}
 use Rattle.std.specs.contracts.option.Option as OP
-use Rattle.vecmap_map.proofs.LentLemmas.Parts.{then_runs, beside, by_parts, by_index, some_of, none_of, index_then, stays_at_none}
-use Rattle.vecmap_map.specs.{Lends.{lends_value_at, lends_beside_index}, contracts.VecMap.the_row}
+use Rattle.vecmap_map.specs.{Lends.{lends_value_at, lends_beside_index}, contracts.VecMap.{the_row, get_full_mut.{ended, clauses, Key.name as #self}}}
+use Rattle.vecmap_map.proofs.LentLemmas.LentParts.{then_runs, beside, by_parts, by_index, some_of, none_of, index_then, stays_at_none}
+use Rattle.vecmap_map.proofs.VecMap.get_full_mut.Statement.{statement}
 use Rattle.vecmap_map.specs.contracts.VecMap.index_and_map as A
 use Rattle.vecmap_map.proofs.VecMap.index_and_map.Met as A-thm
 use Rattle.vecmap_map.specs.contracts.VecMap.full_mut as B
 use Rattle.vecmap_map.proofs.VecMap.full_mut.Met as B-thm
-use Rattle.vecmap_map.specs.contracts.VecMap.get_full_mut.{ended, clauses}
-use Rattle.vecmap_map.specs.contracts.VecMap.get_full_mut.Key.{name as #self}
-use Rattle.vecmap_map.proofs.VecMap.get_full_mut.Statement.{statement}
 use Rattle.vecmap_map.proofs.VecMap.get_full_mut.Code as code
 
 pub get_full_mut_spec : {M : Type 1} → statement M

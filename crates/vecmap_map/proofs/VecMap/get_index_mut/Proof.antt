@@ -7,15 +7,14 @@ use Steps.{SProp, emp, id⊢, ftrue, ‵, raw, ◌⊛◌, some, later, at_ret, �
 use Steps.{live, vrt, in_variant, whole, agg, enter, of_opd, lit, addr, stop, fld, no_more, and_then, first, switches_on, exec, returns, alloc_all, pass_all, free_all, look_at, get, get_in, get_tag, through, sets, sets_last, lands_as, env, proved, leaves, after, head, arm_body}
 use Steps.{yes, no, RattleType, Is, shows, type_at, plain, RefMutOf, usize, Bor, MutBor, mut_vals, mut_Tells, uint_vals, uint_Tells, param, layouts, nothing, only, peeks, heard, Tuple}
 use Steps.{fact, fact_i, ◌⊑◌, tables, calls_at, Lasts, lasts, on_entry, alive, Vals, triple_of, framed, Stays, stay_dropped, walk_of, Goes-dropped}
-use Rattle.vecmap_map.proofs.LentLemmas.Parts.{then_runs, beside_facts, by_cases, some_of, none_of, value_then, nothing_then}
-use Rattle.vecmap_map.specs.{Lends.{lends_pair_if_at, lends_value, lends_beside_key}, contracts.VecMap.the_row}
+use Rattle.vecmap_map.specs.{Lends.{lends_pair_if_at, lends_value, lends_beside_key}, contracts.VecMap.{the_row, get_index_mut.{ended, clauses}}}
+use Rattle.vecmap_map.specs.contracts.VecMap.get_index_mut.Key.{name as #self}
+use Rattle.vecmap_map.proofs.LentLemmas.LentParts.{then_runs, beside_facts, by_cases, some_of, none_of, value_then, nothing_then}
+use Rattle.vecmap_map.proofs.VecMap.get_index_mut.Statement.{statement}
 use Rattle.vecmap_map.specs.contracts.VecMap.pair_at_mut as A
 use Rattle.vecmap_map.proofs.VecMap.pair_at_mut.Met as A-thm
 use Rattle.vecmap_map.specs.contracts.lending.key_and_value as B
 use Rattle.vecmap_map.proofs.lending.key_and_value.Met as B-thm
-use Rattle.vecmap_map.specs.contracts.VecMap.get_index_mut.{ended, clauses}
-use Rattle.vecmap_map.specs.contracts.VecMap.get_index_mut.Key.{name as #self}
-use Rattle.vecmap_map.proofs.VecMap.get_index_mut.Statement.{statement}
 use Rattle.vecmap_map.proofs.VecMap.get_index_mut.Code as code
 
 pub get_index_mut_spec : {M : Type 1} → statement M

@@ -1,6 +1,6 @@
 use Rattle.std.{proofs.Common.{◌≡◌, ◌∙◌, is_some, arith, None, Option, Some, IfSome, ap, sym}, specs.Option.option_and_then}
-use Rattle.vecmap_base.{specs.{Lookups.UpdatesBy, Pairs.{index_by, value_at, with_value}}, proofs.PairsLemmas.AtIndices.match_if_found}
-use Rattle.vecmap_base.proofs.PairsLemmas.{ByIndex.{is_some_lookup_by, lookup_by_index}, UpdatedAt.updates_at}
+use Rattle.vecmap_base.specs.{Lookups.UpdatesBy, Pairs.{index_by, value_at, with_value}}
+use Rattle.vecmap_base.proofs.PairsLemmas.{AtIndices.{match_if_found, updates_at}, ByIndex.{is_some_lookup_by, lookup_by_index}}
 use Rattle.vecmap_map.proofs.VecMap.get_index_of.Goals as goal
 
 pub returns-clause-found : goal.returns-clause-found

@@ -1,5 +1,5 @@
 use Rattle.std.proofs.Common.{arith}
-use Rattle.vecmap_base.proofs.PairsLemmas.{ByIndex.by_index, UpdatedAt.writes_by}
+use Rattle.vecmap_base.proofs.PairsLemmas.{AtIndices.writes_by, ByIndex.by_index}
 use Rattle.vecmap_map.proofs.VecMap.get_mut.Goals as goal
 
 pub returns-in-Some : goal.returns-in-Some

@@ -1,5 +1,5 @@
 use Rattle.std.proofs.{Common.{arith, refl, rules}, lemmas.Option.gets}
-use Rattle.vecmap_base.proofs.PairsLemmas.UpdatedAt.{updates_at}
+use Rattle.vecmap_base.proofs.PairsLemmas.AtIndices.{updates_at}
 use Rattle.vecmap_map.proofs.VecMap.get_value_at_mut.Goals as goal
 
 pub returns-then-len-index : goal.returns-then-len-index

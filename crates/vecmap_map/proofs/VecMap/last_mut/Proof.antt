@@ -5,13 +5,12 @@ use Steps.{SProp, emp, id⊢, ftrue, ‵, raw, ◌⊛◌, some, later, ◌$◌, 
 use Steps.{whole, sub, enter, of_opd, addr, stop, fld, no_more, and_then, returns, alloc_all, pass_all, free_all, look_at, get, get_in, through, sets, lands_as, proved, leaves}
 use Steps.{no, RattleType, Is, shows, type_at, plain, RefMutOf, usize, MutBor, mut_vals, mut_Tells, uint_vals, param, layouts, nothing, peeks, heard}
 use Steps.{fact, fact_i, ◌⊑◌, tables, calls_at, Lasts, lasts, on_entry, alive, Vals, triple_of, framed, Stays, stay_dropped, walk_of, Goes-dropped}
-use Rattle.vecmap_map.proofs.{LentLemmas.Parts.{beside_facts, by_ends, by_parts}, VecMap.last_mut.Statement.statement}
-use Rattle.vecmap_map.specs.{Lends.lends_beside_key, contracts.VecMap.the_row, contracts.VecMap.last_mut.{ended, clauses}}
+use Rattle.vecmap_map.specs.{Lends.lends_beside_key, contracts.VecMap.{the_row, last_mut.{ended, clauses, Key.name as #self}}}
+use Rattle.vecmap_map.proofs.{LentLemmas.LentParts.{beside_facts, by_ends, by_parts}, VecMap.last_mut.Statement.statement}
 use Rattle.vecmap_map.specs.contracts.VecMap.get_index_mut as A
 use Rattle.vecmap_map.proofs.VecMap.get_index_mut.Met as A-thm
 use Rattle.vecmap_map.specs.contracts.VecMap.last_index_and_map as W
 use Rattle.vecmap_map.proofs.VecMap.last_index_and_map.Met as W-thm
-use Rattle.vecmap_map.specs.contracts.VecMap.last_mut.Key.{name as #self}
 use Rattle.vecmap_map.proofs.VecMap.last_mut.Code as code
 
 -- The last index is in range exactly if there is a pair.

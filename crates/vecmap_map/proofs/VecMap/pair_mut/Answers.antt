@@ -1,5 +1,5 @@
 use Rattle.std.proofs.Common.{refl, rules}
-use Rattle.vecmap_base.proofs.PairsLemmas.UpdatedAt.{updates_at}
+use Rattle.vecmap_base.proofs.PairsLemmas.AtIndices.{updates_at}
 use Rattle.vecmap_map.proofs.VecMap.pair_mut.Goals as goal
 
 pub returns : goal.returns

@@ -1,4 +1,4 @@
-use Rattle.vecmap_base.proofs.PairsLemmas.UpdatedAt.{writes_by}
+use Rattle.vecmap_base.proofs.PairsLemmas.AtIndices.{writes_by}
 use Rattle.vecmap_map.proofs.VecMap.present_index.Goals as goal
 
 pub returns-clause-writes : goal.returns-clause-writes

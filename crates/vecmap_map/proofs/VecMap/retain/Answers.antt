@@ -1,6 +1,5 @@
 use Rattle.std.proofs.Common.{◌≡◌, Some, subst, sym}
-use Rattle.vecmap_base.specs.{Asked.CallsAtPair, Pairs.{HasDistinctKeys, lookup_by}}
-use Rattle.vecmap_base.proofs.PairsLemmas.Filtered.{value_gone, value_stays}
+use Rattle.vecmap_base.{specs.{FnMutCalls.CallsAtPair, Pairs.{HasDistinctKeys, lookup_by}}, proofs.PairsLemmas.Retained.{value_gone, value_stays}}
 use Rattle.vecmap_map.proofs.VecMap.retain.Goals as goal
 
 pub returns-clause-stays : goal.returns-clause-stays

@@ -1,5 +1,5 @@
 use Rattle.std.proofs.Common.{rules}
-use Rattle.vecmap_base.proofs.PairsLemmas.SetValues.{sets_values}
+use Rattle.vecmap_base.proofs.UpdatedLemmas.{sets_values}
 use Rattle.vecmap_map.proofs.VecMap.set_values.Goals as goal
 
 pub returns-clause-update : goal.returns-clause-update

@@ -1,5 +1,5 @@
 use Rattle.std.proofs.{Common.{ap, refl, subst, sym, ◌∙◌, ◌≡◌}, lemmas.{Fn.answers_by, Result.on_ok_weaker}}
-use Rattle.vecmap_base.{specs.Orders.ReturnsOnPair, proofs.PairsLemmas.Reordered.reordered}
+use Rattle.vecmap_base.{specs.FnCalls.ReturnsOnPair, proofs.PairsLemmas.Reordered.reordered}
 use Rattle.vecmap_map.proofs.VecMap.sort_by_cached_key.Goals as goal
 
 pub returns-clause-sorted : goal.returns-clause-sorted

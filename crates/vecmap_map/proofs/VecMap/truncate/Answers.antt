@@ -1,5 +1,5 @@
 use Rattle.std.proofs.Common.{rules}
-use Rattle.vecmap_base.proofs.PairsLemmas.Parts.{keeps_front_of}
+use Rattle.vecmap_base.proofs.PairsLemmas.ManyPairs.{keeps_front_of}
 use Rattle.vecmap_map.proofs.VecMap.truncate.Goals as goal
 
 pub returns-clause-front : goal.returns-clause-front

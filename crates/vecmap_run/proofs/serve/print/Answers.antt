@@ -1,6 +1,6 @@
 use Rattle.std.proofs.{Common.{◌≡◌, ◌∙◌, List, ℕ, [], None, Option, Some, ap, append-nil, rules}, KnownBytes.Appends-of_writes}
 use Rattle.std.{proofs.lemmas.Result.on_ok_weaker, specs.Io.KnownBytes.{Appends, append_known}}
-use Rattle.vecmap_run.specs.Buffer.{buffer_bytes}
+use Rattle.vecmap_run.specs.Print.{buffer_bytes}
 use Rattle.vecmap_run.proofs.serve.print.Goals as goal
 
 -- Sending moves the gathered bytes to the writer, so that what was held, with the gathered bytes, is held by the writer

@@ -1,5 +1,5 @@
 use Rattle.vecmap_base.proofs.ItemsLemmas.Sorted.{search_at, search_finds_equal}
-use Rattle.vecmap_set.proofs.IndexLemmas.{finds_searched}
+use Rattle.vecmap_set.proofs.SetIndexLemmas.{finds_searched}
 use Rattle.vecmap_set.proofs.VecSet.binary_search.Goals as goal
 
 pub returns-clause-index : goal.returns-clause-index

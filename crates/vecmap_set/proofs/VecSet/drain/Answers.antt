@@ -1,5 +1,5 @@
 use Rattle.std.proofs.{Common.{arith, rules}, lemmas.{Grind.common_steps, List.drop_all}}
-use Rattle.vecmap_set.proofs.RemovalLemmas.{keeps_front_items}
+use Rattle.vecmap_set.proofs.SetRemovalLemmas.{keeps_front_items}
 use Rattle.vecmap_set.proofs.VecSet.drain.Goals as goal
 
 pub returns-clause-front : goal.returns-clause-front

@@ -1,4 +1,4 @@
-use Rattle.vecmap_set.proofs.IndexLemmas.{item_of_read}
+use Rattle.vecmap_set.proofs.SetIndexLemmas.{item_of_read}
 use Rattle.vecmap_set.proofs.VecSet.get_index.Goals as goal
 
 pub returns-clause-at : goal.returns-clause-at

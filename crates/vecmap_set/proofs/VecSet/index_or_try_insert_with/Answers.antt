@@ -3,7 +3,7 @@ use Rattle.std.specs.List.{list_any}
 use Rattle.std.proofs.Common.{◌≡◌, ◌++◌, ◌∙◌, [], ◌∷◌, None, Some, ap, false, if◌then◌else◌, is_some, position, rules, sym, true}
 use Rattle.std.proofs.lemmas.Option.{none-some}
 use Rattle.vecmap_base.proofs.{IndexLemmas.{list_any_position, position_appended}, ItemsLemmas.Members.absent_by}
-use Rattle.vecmap_set.proofs.{IndexLemmas.finds_at, InsertionLemmas.adds_item_by}
+use Rattle.vecmap_set.proofs.{SetIndexLemmas.finds_at, SetInsertionLemmas.adds_item_by}
 use Rattle.vecmap_set.proofs.VecSet.index_or_try_insert_with.Goals as goal
 
 pub returns-in-Some-clause-insertion : goal.returns-in-Some-clause-insertion

@@ -1,6 +1,6 @@
 use Rattle.std.proofs.Common.{arith, rules}
 use Rattle.vecmap_base.proofs.ItemsLemmas.Additions.{add_present}
-use Rattle.vecmap_set.proofs.InsertionLemmas.{adds_item}
+use Rattle.vecmap_set.proofs.SetInsertionLemmas.{adds_item}
 use Rattle.vecmap_set.proofs.VecSet.insert.Goals as goal
 
 pub returns-then-contains_item_inline-clause-insertion : goal.returns-then-contains_item_inline-clause-insertion

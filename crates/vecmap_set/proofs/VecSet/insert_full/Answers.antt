@@ -1,7 +1,7 @@
 -- The idea: a new element is at the index after the others, as none before it is equal to it.
 use Rattle.std.proofs.Common.{◌≡◌, ◌∙◌, None, Some, ap, rules, sym}
 use Rattle.vecmap_base.{specs.Items.item_index, proofs.IndexLemmas.{list_any_position, position_appended}}
-use Rattle.vecmap_set.proofs.{IndexLemmas.finds_at, InsertionLemmas.adds_item}
+use Rattle.vecmap_set.proofs.{SetIndexLemmas.finds_at, SetInsertionLemmas.adds_item}
 use Rattle.vecmap_set.proofs.VecSet.insert_full.Goals as goal
 
 pub returns-in-Some-clause-at : goal.returns-in-Some-clause-at

@@ -1,5 +1,5 @@
 use Rattle.std.proofs.Common.{rules}
-use Rattle.vecmap_set.proofs.{InsertionLemmas.{adds_new_item, appends_item}, SetLemmas.distinct_changes}
+use Rattle.vecmap_set.proofs.{SetInsertionLemmas.{adds_new_item, appends_item}, SetLemmas.distinct_changes}
 use Rattle.vecmap_set.proofs.VecSet.insert_unique.Goals as goal
 
 pub returns-clause-list : goal.returns-clause-list

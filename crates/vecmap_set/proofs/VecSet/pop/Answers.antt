@@ -1,5 +1,5 @@
 use Rattle.std.proofs.Common.{rules}
-use Rattle.vecmap_set.proofs.RemovalLemmas.{removes_last_item}
+use Rattle.vecmap_set.proofs.SetRemovalLemmas.{removes_last_item}
 use Rattle.vecmap_set.proofs.VecSet.pop.Goals as goal
 
 pub returns-clause-removal : goal.returns-clause-removal

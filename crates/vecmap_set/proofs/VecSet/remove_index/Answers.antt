@@ -1,5 +1,5 @@
 use Rattle.std.proofs.{Common.{arith, rules}, lemmas.Option.gets}
-use Rattle.vecmap_set.proofs.{IndexLemmas.items_shift, RemovalLemmas.removes_item_at}
+use Rattle.vecmap_set.proofs.{SetIndexLemmas.items_shift, SetRemovalLemmas.removes_item_at}
 use Rattle.vecmap_set.proofs.VecSet.remove_index.Goals as goal
 
 pub returns-clause-removal : goal.returns-clause-removal

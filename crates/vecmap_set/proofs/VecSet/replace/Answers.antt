@@ -1,8 +1,8 @@
 -- The idea: the index that was found has an equal element, and a replacement by an equal element keeps the set
 -- distinct.
 use Rattle.std.proofs.{Common.{◌≡◌, ◌∙◌, rules, sym, ap, Some}, lemmas.{List.Quantifiers.position-Some, Option.gets}}
-use Rattle.vecmap_base.{specs.Items.item_index, proofs.{DistinctLemmas.Additions.distinct_replace, IndexLemmas.list_any_position}}
-use Rattle.vecmap_set.proofs.{InsertionLemmas.puts_item, RemovalLemmas.finds_item}
+use Rattle.vecmap_base.{specs.Items.item_index, proofs.{DistinctLemmas.distinct_replace, IndexLemmas.list_any_position}}
+use Rattle.vecmap_set.proofs.{SetInsertionLemmas.puts_item, SetRemovalLemmas.finds_item}
 use Rattle.vecmap_set.proofs.VecSet.replace.Goals as goal
 
 pub invariant_of-self : goal.invariant_of-self

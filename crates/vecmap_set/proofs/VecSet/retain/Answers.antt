@@ -1,6 +1,6 @@
 use Rattle.std.proofs.{Common.{arith, false, true}, lemmas.Grind.common_steps}
-use Rattle.vecmap_base.{specs.Asked.CallsAtItem, proofs.DistinctLemmas.Removals.distinct_kept}
-use Rattle.vecmap_set.proofs.RemovalLemmas.{retains_items}
+use Rattle.vecmap_base.{specs.FnMutCalls.CallsAtItem, proofs.DistinctLemmas.distinct_kept}
+use Rattle.vecmap_set.proofs.SetRemovalLemmas.{retains_items}
 use Rattle.vecmap_set.proofs.VecSet.retain.Goals as goal
 
 pub invariant_of-self : goal.invariant_of-self

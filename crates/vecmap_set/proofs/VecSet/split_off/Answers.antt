@@ -1,5 +1,5 @@
 use Rattle.std.proofs.Common.{rules}
-use Rattle.vecmap_set.proofs.RemovalLemmas.{splits_items}
+use Rattle.vecmap_set.proofs.SetRemovalLemmas.{splits_items}
 use Rattle.vecmap_set.proofs.VecSet.split_off.Goals as goal
 
 pub returns-clause-split : goal.returns-clause-split

@@ -1,5 +1,5 @@
 use Rattle.std.proofs.{Common.{arith, rules}, lemmas.Option.gets}
-use Rattle.vecmap_set.proofs.RemovalLemmas.{distinct_swap_removed, last_item_moves, swap_removes_item_at}
+use Rattle.vecmap_set.proofs.SetRemovalLemmas.{distinct_swap_removed, last_item_moves, swap_removes_item_at}
 use Rattle.vecmap_set.proofs.VecSet.swap_remove_index.Goals as goal
 
 pub returns-clause-removal : goal.returns-clause-removal

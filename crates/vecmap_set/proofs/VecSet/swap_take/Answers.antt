@@ -1,5 +1,5 @@
 use Rattle.std.proofs.Common.{Some, rules}
-use Rattle.vecmap_set.proofs.RemovalLemmas.{finds_item, swap_removes_item_by}
+use Rattle.vecmap_set.proofs.SetRemovalLemmas.{finds_item, swap_removes_item_by}
 use Rattle.vecmap_set.proofs.VecSet.swap_take.Goals as goal
 
 pub returns-in_err-index-clause-item : goal.returns-in_err-index-clause-item

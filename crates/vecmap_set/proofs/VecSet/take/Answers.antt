@@ -1,5 +1,5 @@
 use Rattle.std.proofs.Common.{Some, rules}
-use Rattle.vecmap_set.proofs.{IndexLemmas.items_shift_first, RemovalLemmas.{finds_item, removes_item_by}}
+use Rattle.vecmap_set.proofs.{SetIndexLemmas.items_shift_first, SetRemovalLemmas.{finds_item, removes_item_by}}
 use Rattle.vecmap_set.proofs.VecSet.take.Goals as goal
 
 pub returns-in_err-index-clause-item : goal.returns-in_err-index-clause-item

@@ -1,7 +1,7 @@
 -- The idea: if each clone is equal to its original, the clones are as distinct as the originals.
 use Rattle.std.{proofs.Common.{◌≡◌, Bool, IsTrue, List, [], ◌∷◌, true, sym, true≢false}, specs.Cmp.{first_so, second_so}}
 use Rattle.std.specs.Cmp.Lexicographic.{pointwise}
-use Rattle.vecmap_base.{specs.Clones.AreClones, proofs.DistinctLemmas.Clones.distinct_clones}
+use Rattle.vecmap_base.{specs.Clones.AreClones, proofs.DistinctLemmas.distinct_clones}
 use Rattle.vecmap_set.proofs.cloning.stay_distinct.Goals as goal
 
 -- Lists that are equal item by item.

@@ -1,5 +1,5 @@
 use Rattle.std.proofs.Common.{Some, ap, option_copied, option_map, string_bytes, ◌∙◌}
-use Rattle.attr_doc.{specs.Documents.text_of, proofs.TextLemmas.{text_of_none, text_of_some}}
+use Rattle.attr_doc.{specs.Documents.text_of, proofs.TwoLookups.{text_of_none, text_of_some}}
 use Rattle.attr_doc.proofs.document.Document.get.Goals as goal
 
 pub returns-in_err-texts : goal.returns-in_err-texts

@@ -1,5 +1,5 @@
 use Rattle.std.proofs.Common.{◌≡◌, ◌↔◌, ℕ, List, Bool, IsTrue, subst, sym}
-use Rattle.attr_doc.{specs.Documents.{Sections, sections_of, text_of}, proofs.EqualityLemmas.same_documents}
+use Rattle.attr_doc.{specs.Documents.{Sections, sections_of, text_of}, proofs.SameTexts.same_documents}
 use Rattle.attr_doc.proofs.document.Document.same.Goals as goal
 
 abbrev Tells : Sections → Sections → Bool → Type 0

@@ -1,5 +1,5 @@
 use Rattle.std.proofs.Common.{Some, ap, nat_eq, rules, sym, ◌∙◌}
-use Rattle.vecmap_laws.proofs.WriteLemmas.{written_back}
+use Rattle.vecmap_laws.proofs.QueryLemmas.{written_back}
 use Rattle.vecmap_callers.specs.{declared.trees.Tree.out-Tree, declared.trees.Tree.TheViews.the_lemmas}
 use Rattle.vecmap_callers.proofs.trees.Tree.+insert.Goals as goal
 

@@ -1,4 +1,4 @@
-use Rattle.vecmap_laws.proofs.{AfterPuts.{lookup_puts, lookup_puts_distinct}, Parts.lookup_puts_last}
+use Rattle.vecmap_laws.proofs.{AfterPuts.{lookup_puts, lookup_puts_distinct}, TwoParts.lookup_puts_last}
 use Rattle.vecmap_laws.proofs.maps.insertions.bulk_insertions_are_single_ones.Goals as goal
 
 pub returns-clause-value : goal.returns-clause-value

@@ -1,6 +1,6 @@
 use Rattle.std.proofs.Common.{◌∙◌, ◌++◌, ◌∷◌, [], ap, sym}
-use Rattle.vecmap_base.{specs.Pairs.puts, proofs.PairsLemmas.Parts.makes_pairs}
-use Rattle.vecmap_laws.proofs.Puts.{puts_append}
+use Rattle.vecmap_base.{specs.Pairs.puts, proofs.PairsLemmas.ManyPairs.makes_pairs}
+use Rattle.vecmap_laws.proofs.PutLemmas.{puts_append}
 use Rattle.vecmap_laws.proofs.maps.insertions.collecting_one_more_is_extending.Goals as goal
 
 pub returns : goal.returns

@@ -1,5 +1,5 @@
 -- The idea: each clause is a lemma of `AfterPuts` or of `Lookups`.
-use Rattle.vecmap_laws.proofs.{AfterPuts.{lookup_put_any, lookup_put_key}, Lookups.{lookup_put, lookup_put_other}}
+use Rattle.vecmap_laws.proofs.{AfterPuts.{lookup_put_any, lookup_put_key}, LookupLemmas.{lookup_put, lookup_put_other}}
 use Rattle.vecmap_laws.proofs.maps.insertions.insertions_are_found.Goals as goal
 
 pub returns-clause-value : goal.returns-clause-value

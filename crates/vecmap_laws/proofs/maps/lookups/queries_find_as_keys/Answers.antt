@@ -1,5 +1,5 @@
-use Rattle.vecmap_base.proofs.PairsLemmas.Lookups.{compares_with}
-use Rattle.vecmap_laws.proofs.Queries.{lookup_put_any_query, lookup_put_other_query, lookup_put_query, lookup_without_query}
+use Rattle.vecmap_base.proofs.PairsLemmas.LookupsAfterChanges.{compares_with}
+use Rattle.vecmap_laws.proofs.QueryLemmas.{lookup_put_any_query, lookup_put_other_query, lookup_put_query, lookup_without_query}
 use Rattle.vecmap_laws.proofs.maps.lookups.queries_find_as_keys.Goals as goal
 
 pub returns : goal.returns

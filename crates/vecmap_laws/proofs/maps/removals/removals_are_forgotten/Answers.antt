@@ -1,6 +1,5 @@
-use Rattle.vecmap_laws.proofs.{AfterPuts.lookup_without_any, Lookups.{lookup_without_key, lookup_without_key_other}}
+use Rattle.vecmap_laws.proofs.{AfterPuts.lookup_without_any, Finds.lookup_swap_without_key, LookupLemmas.{lookup_without_key, lookup_without_key_other}}
 use Rattle.vecmap_laws.proofs.maps.removals.removals_are_forgotten.Goals as goal
-use Rattle.vecmap_laws.proofs.Finds.{lookup_swap_without_key}
 
 pub returns-clause-value : goal.returns-clause-value
 returns-clause-value g c = λ l d k. lookup_without_key g.K.PartialEq.eq g.met.K.Eq.laws l k d

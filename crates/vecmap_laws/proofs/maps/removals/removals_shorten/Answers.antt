@@ -1,8 +1,7 @@
 -- The idea: each clause is a lemma of `RemovalLemmas`, for a removal by index that leaves all other pairs.
 use Rattle.std.proofs.Common.{◌-◌, ◌∙◌, ap, if◌then◌else◌, is_some, length, remove, sym}
 use Rattle.vecmap_base.{specs.Items.swap_without, proofs.PairsLemmas.ByIndex.index_by_is}
-use Rattle.vecmap_laws.proofs.OneMore.{swap_without_by_is, without_by_is}
-use Rattle.vecmap_laws.proofs.RemovalLemmas.{length_by_index, length_by_test, remove_leaves, swap_leaves}
+use Rattle.vecmap_laws.proofs.{OneMore.{swap_without_by_is, without_by_is}, TakenOut.{length_by_index, length_by_test, remove_leaves, swap_leaves}}
 use Rattle.vecmap_laws.proofs.maps.removals.removals_shorten.Goals as goal
 
 pub returns-clause-shift : goal.returns-clause-shift

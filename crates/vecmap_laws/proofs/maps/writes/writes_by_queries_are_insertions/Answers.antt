@@ -1,4 +1,4 @@
-use Rattle.vecmap_laws.proofs.WriteLemmas.{lookup_written, lookup_written_other_query, with_value_by_is_put}
+use Rattle.vecmap_laws.proofs.QueryLemmas.{lookup_written, lookup_written_other_query, with_value_by_is_put}
 use Rattle.vecmap_laws.proofs.maps.writes.writes_by_queries_are_insertions.Goals as goal
 
 pub returns : goal.returns

@@ -1,6 +1,6 @@
 -- The idea: each list is distinct in either order of the two sets, so it is whichever of them is longer.
 use Rattle.std.specs.{List.IsDistinct, Set.is_member}
-use Rattle.vecmap_base.proofs.EqualityLemmas.Relations.{distinct_both}
+use Rattle.vecmap_base.proofs.EqualityLemmas.Sets.{distinct_both}
 use Rattle.vecmap_set.specs.Lazy.{filtered_rest}
 use Rattle.vecmap_laws.proofs.AlgebraLemmas.{on_shorter}
 use Rattle.vecmap_laws.proofs.sets.algebra.lazy_iterators_give_no_repeats.Goals as goal

@@ -1,5 +1,5 @@
-use Rattle.vecmap_base.proofs.DistinctLemmas.Removals.{distinct_drop, distinct_filter, distinct_remove_range, distinct_take}
-use Rattle.vecmap_laws.proofs.DistinctParts.{distinct_slice_range}
+use Rattle.vecmap_base.proofs.DistinctLemmas.{distinct_drop, distinct_filter, distinct_remove_range, distinct_take}
+use Rattle.vecmap_laws.proofs.DistinctKeys.{distinct_slice_range}
 use Rattle.vecmap_laws.proofs.sets.distinct.parts_keep_elements_distinct.Goals as goal
 
 pub returns : goal.returns

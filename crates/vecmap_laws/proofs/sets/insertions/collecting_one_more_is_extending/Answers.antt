@@ -1,6 +1,6 @@
 use Rattle.std.proofs.Common.{◌∙◌, ◌++◌, ◌∷◌, [], ap, sym}
-use Rattle.vecmap_base.{specs.Items.adds, proofs.DistinctLemmas.Absent.distinct_none}
-use Rattle.vecmap_laws.proofs.ItemMembers.{adds_append}
+use Rattle.vecmap_base.{specs.Items.adds, proofs.DistinctLemmas.distinct_none}
+use Rattle.vecmap_laws.proofs.ItemLemmas.{adds_append}
 use Rattle.vecmap_set.proofs.MemberLemmas.{adds_items}
 use Rattle.vecmap_laws.proofs.sets.insertions.collecting_one_more_is_extending.Goals as goal
 

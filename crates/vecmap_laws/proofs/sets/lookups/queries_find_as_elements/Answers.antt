@@ -1,5 +1,5 @@
-use Rattle.vecmap_laws.proofs.ItemQueries.{index_after_any, index_after_other, index_after_own, without_query_absent}
-use Rattle.vecmap_base.proofs.PairsLemmas.Lookups.{compares_with}
+use Rattle.vecmap_laws.proofs.ItemLemmas.{index_after_any, index_after_other, index_after_own, without_query_absent}
+use Rattle.vecmap_base.proofs.PairsLemmas.LookupsAfterChanges.{compares_with}
 use Rattle.vecmap_laws.proofs.sets.lookups.queries_find_as_elements.Goals as goal
 
 pub returns : goal.returns

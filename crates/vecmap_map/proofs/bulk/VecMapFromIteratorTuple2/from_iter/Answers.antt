@@ -1,5 +1,5 @@
 use Rattle.std.proofs.{Common.rules, lemmas.Result.IfOk-weaker}
-use Rattle.vecmap_base.proofs.PairsLemmas.Parts.{makes_pairs}
+use Rattle.vecmap_base.proofs.PairsLemmas.ManyPairs.{makes_pairs}
 use Rattle.vecmap_map.proofs.bulk.VecMapFromIteratorTuple2.from_iter.Goals as goal
 
 pub returns : goal.returns

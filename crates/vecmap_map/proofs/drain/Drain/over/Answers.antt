@@ -1,4 +1,4 @@
-use Rattle.vecmap_base.proofs.DrainRuns.{drains_in_order, drains_in_reverse}
+use Rattle.vecmap_base.proofs.DrainLemmas.{drains_in_order, drains_in_reverse}
 use Rattle.vecmap_map.specs.Drain.{DrainKeeps, drain_rest}
 use Rattle.vecmap_map.proofs.drain.Drain.over.Goals as goal
 

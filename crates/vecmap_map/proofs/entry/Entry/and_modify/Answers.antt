@@ -1,7 +1,7 @@
 -- The idea: the write through `get_mut` leaves the value that `f` left, so the lemma on written values proves each
 -- clause.
 use Rattle.std.{proofs.Common.{ap, refl, subst, sym, ◌∙◌}, specs.{Map.Calls.{MayWrite, ModifiesValue}, Option.option_map_or}}
-use Rattle.vecmap_map.{specs.Entry.{entries_with, entry_map, entry_value}, proofs.EntryLemmas.Written.value_at_written}
+use Rattle.vecmap_map.{specs.Entry.{entries_with, entry_map, entry_value}, proofs.EntryLemmas.value_at_written}
 use Rattle.vecmap_map.proofs.entry.Entry.and_modify.Goals as goal
 
 pub returns-in-Occupied-clause-update : goal.returns-in-Occupied-clause-update

@@ -15,18 +15,17 @@ use denote.Param.Laws.{copied_laws}
 use Rattle.vecmap_base.specs.Pairs.{index_by, lookup_pair_by}
 use Rattle.vecmap_base.proofs.PairsLemmas.ByIndex.{lookup_pair_by_index}
 use Rattle.std.specs.contracts.option.Option as OP
-use Rattle.vecmap_map.proofs.LentLemmas.Both.{beside_index, both_index_then, by_both, stays_unlent}
-use Rattle.vecmap_map.proofs.LentLemmas.Parts.{then_runs, beside, beside_facts, by_parts, by_index, some_of, none_of}
 use Rattle.vecmap_map.specs.{Lends.{lends_both_beside_index, lends_parts, lends_pair_at}, contracts.VecMap.the_row}
+use Rattle.vecmap_map.specs.contracts.mutable_keys.VecMapMutableKeys.get_full_mut2.{ended, clauses, Key.name as #self}
+use Rattle.vecmap_map.proofs.LentLemmas.Both.{beside_index, both_index_then, by_both, stays_unlent}
+use Rattle.vecmap_map.proofs.LentLemmas.LentParts.{then_runs, beside, beside_facts, by_parts, by_index, some_of, none_of}
+use Rattle.vecmap_map.proofs.mutable_keys.VecMapMutableKeys.get_full_mut2.Statement.{statement}
 use Rattle.vecmap_map.specs.contracts.VecMap.index_and_map as A
 use Rattle.vecmap_map.proofs.VecMap.index_and_map.Met as A-thm
 use Rattle.vecmap_map.specs.contracts.VecMap.whole_pair_mut as B
 use Rattle.vecmap_map.proofs.VecMap.whole_pair_mut.Met as B-thm
 use Rattle.vecmap_map.specs.contracts.mutable_keys.parts_mut as D
 use Rattle.vecmap_map.proofs.mutable_keys.parts_mut.Met as D-thm
-use Rattle.vecmap_map.specs.contracts.mutable_keys.VecMapMutableKeys.get_full_mut2.{ended, clauses}
-use Rattle.vecmap_map.specs.contracts.mutable_keys.VecMapMutableKeys.get_full_mut2.Key.{name as #self}
-use Rattle.vecmap_map.proofs.mutable_keys.VecMapMutableKeys.get_full_mut2.Statement.{statement}
 use Rattle.vecmap_map.proofs.mutable_keys.VecMapMutableKeys.get_full_mut2.Code as code
 
 pub get_full_mut2_spec : {M : Type 1} → statement M

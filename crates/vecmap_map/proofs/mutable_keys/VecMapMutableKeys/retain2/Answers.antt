@@ -1,5 +1,5 @@
 use Rattle.std.proofs.Common.{rules}
-use Rattle.vecmap_base.{specs.Asked.CallsAtPairMut, proofs.PairsLemmas.Retained.retains}
+use Rattle.vecmap_base.{specs.FnMutCalls.CallsAtPairMut, proofs.PairsLemmas.Retained.retains}
 use Rattle.vecmap_map.proofs.mutable_keys.VecMapMutableKeys.retain2.Goals as goal
 
 pub returns-clause-left : goal.returns-clause-left

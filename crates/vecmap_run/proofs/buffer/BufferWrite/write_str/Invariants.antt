@@ -1,5 +1,5 @@
 use Rattle.std.{proofs.Common.{◌≡◌, take}, specs.Io.KnownBytes.Appends}
-use Rattle.vecmap_run.specs.Buffer.{buffer_bytes}
+use Rattle.vecmap_run.specs.Print.{buffer_bytes}
 use Rattle.vecmap_run.proofs.buffer.BufferWrite.write_str.Given as goal
 
 -- What the buffer and its writer hold has grown by the bytes so far.

@@ -1,5 +1,5 @@
 use Rattle.std.proofs.{Common.{[], rules}, lemmas.Result.IfOk-weaker}
-use Rattle.vecmap_base.proofs.DistinctLemmas.Absent.{distinct_none}
+use Rattle.vecmap_base.proofs.DistinctLemmas.{distinct_none}
 use Rattle.vecmap_set.proofs.MemberLemmas.{adds_items}
 use Rattle.vecmap_set.proofs.bulk.VecSetFromIterator.from_iter.Goals as goal
 

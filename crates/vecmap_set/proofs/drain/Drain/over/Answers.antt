@@ -1,6 +1,5 @@
-use Rattle.vecmap_base.proofs.{DistinctLemmas.Order.distinct_rearranged, DrainLemmas.drained_rearranged}
-use Rattle.vecmap_base.proofs.DrainRuns.{drains_in_order, drains_in_reverse}
-use Rattle.vecmap_set.specs.Drain.{DrainKeeps, drain_rest}
+use Rattle.vecmap_base.proofs.{DistinctLemmas.distinct_rearranged, DrainLemmas.{drained_rearranged, drains_in_order, drains_in_reverse}}
+use Rattle.vecmap_set.specs.SetDrain.{DrainKeeps, drain_rest}
 use Rattle.vecmap_set.proofs.drain.Drain.over.Goals as goal
 
 pub returns-then-end-len-clause-runs : goal.returns-then-end-len-clause-runs

@@ -1,5 +1,5 @@
 use Rattle.std.proofs.Common.{refl}
-use Rattle.vecmap_map.proofs.EntryLemmas.Inserted.{leaves_same, occupied_written}
+use Rattle.vecmap_map.proofs.EntryLemmas.{leaves_same, occupied_written}
 use Rattle.vecmap_map.proofs.entry.occupied.OccupiedEntry.get_mut.Goals as goal
 
 pub returns : goal.returns

@@ -1,5 +1,5 @@
 use Rattle.std.proofs.Common.{refl}
-use Rattle.vecmap_map.proofs.EntryLemmas.Inserted.{occupied_inserted}
+use Rattle.vecmap_map.proofs.EntryLemmas.{occupied_inserted}
 use Rattle.vecmap_map.proofs.entry.occupied.OccupiedEntry.into_inserted.Goals as goal
 
 pub returns : goal.returns

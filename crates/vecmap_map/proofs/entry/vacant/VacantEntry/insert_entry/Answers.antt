@@ -1,5 +1,5 @@
 use Rattle.std.proofs.Common.{refl}
-use Rattle.vecmap_map.proofs.EntryLemmas.Inserted.{vacant_inserted}
+use Rattle.vecmap_map.proofs.EntryLemmas.{vacant_inserted}
 use Rattle.vecmap_map.proofs.entry.vacant.VacantEntry.insert_entry.Goals as goal
 
 pub returns-in-Ok-push : goal.returns-in-Ok-push

@@ -1,6 +1,6 @@
 use Rattle.std.proofs.{Common.{refl, sym, ◌∙◌}, lemmas.Option.same_Some}
 use Rattle.vecmap_base.specs.Pairs.{value_at, with_value}
-use Rattle.vecmap_map.proofs.EntryLemmas.Written.{value_last, with_value_last}
+use Rattle.vecmap_map.proofs.EntryLemmas.{value_last, with_value_last}
 use Rattle.vecmap_map.proofs.entry.vacant.VacantEntry.insert_or_convert.Goals as goal
 
 pub returns-in-Ok : goal.returns-in-Ok
