@@ -2,7 +2,7 @@
 -- the part by the one next to it does the same.
 use Rattle.std.specs.{List.Sorted.IsPermutation, Option.option_map_or}
 use Rattle.std.proofs.Common.{◌≡◌, ℕ, zero, suc, ◌+◌, ◌-◌, ◌<◌, ◌≤◌, List, [], ◌∷◌, ◌++◌, ap, arith, append_assoc, drop, drop_at, get_or, insert, length, length-take-le, nat_eq, false, refl, remove, reverse, set, slice_get, swap, Some, subst, sym, take, take_at, true≢false, ◌∙◌}
-use Rattle.std.proofs.{lemmas.Bool.eq-eqb, lemmas.List.Edits.{length-remove, swap_is}, lemmas.Grind.get_or-set_at, Math.Seq.take-length}
+use Rattle.std.proofs.{lemmas.Bool.eq-eqb, lemmas.List.Edits.{length-remove, swap_is}, lemmas.Grind.get_or-set_at}
 use Rattle.std.proofs.lemmas.List.{drop-set-lt, get_or-reverse, get_or-set_other, get_or-set_same, length-reverse, length-set, take-set-le, take_more}
 use Rattle.std.proofs.lemmas.List.Sorted.{IsPermutation-insert, IsPermutation-remove, IsPermutation-trans}
 use Rattle.std.proofs.lemmas.Option.{get_or_from_slice_get, slice_get-get_or}
@@ -87,10 +87,6 @@ module _ {X : Type 0} where
   -- The item at `i` is replaced before it moves.
   pub replaced_and_moved : (xs : List X) (i to : ℕ) (x d : X) → i < length xs → insert (remove (set xs i x) i) to (get_or (set xs i x) i d) ≡ insert (remove xs i) to x
   replaced_and_moved xs i to x d within = grind (arith, take-set-le, drop-set-lt, get_or-set_same)
-
-  -- The items before an item that was inserted at the end.
-  pub taken_last : (ys : List X) (n m : ℕ) (x : X) → n ≡ length ys → m ≡ length ys → take n (insert ys m x) ≡ ys
-  taken_last ys n m x e f = grind (arith, length-take-le, take_at, take-length)
 
   -- An inserted item is removed.
   pub inserted_removed : (xs : List X) (i : ℕ) (x : X) → i ≤ length xs → remove (insert xs i x) i ≡ xs

@@ -1,16 +1,11 @@
--- What a borrow of the pairs leaves, what a call leaves that appends a pair if a query matches nothing, and what is in
--- a map of clones.
-use Rattle.std.specs.{Cmp.IsEquivalence, List.refill, Map.IsKeyTest}
+-- What a call leaves that appends a pair if a query matches nothing, and what is in a map of clones.
+use Rattle.std.specs.{Cmp.IsEquivalence, Map.IsKeyTest}
 use Rattle.std.proofs.Common.{arith, ◌≡◌, ◌∙◌, ◌++◌, ◌+◌, ℕ, Bool, true, List, [], ◌∷◌, None, Some, ap, if◌then◌else◌, is_some, length, refl, sym, true≢false, unwrap_or, ◌≤◌}
 use Rattle.std.proofs.lemmas.{List.length-append, Map.Entries.entries_from_clone, Option.{none-some, slice_get_within}, Slice.Zip.AllZip-long}
 use Rattle.vecmap_base.specs.{Clones.{ArePairClones, IsPairClone}, Pairs.{index_by, lookup_by, puts}}
 use Rattle.vecmap_base.proofs.{IndexLemmas.slice_get_last, PairsLemmas.{AtIndices.{index_stays, match_at}, ByIndex.{index_by_appended, is_some_lookup_by}}}
 use Rattle.vecmap_base.proofs.PairsLemmas.{ManyPairs.{lookup_by_append, makes_pairs}, Updates.{updates_appended_found, updates_matched, updates_written_at}}
-use Rattle.vecmap_map.specs.{Contents.{Contents, FindsOrAppends, with_entries, with_written}, MapBulk.MakesClones}
-
--- A map whose vector of n pairs was borrowed is `m` with what was last written.
-pub refilled_back : {K V : Type 0} (v m : Contents K V) → v ≡ m → (n : ℕ) → n ≡ length v.entries → (w : List (K × V)) → with_entries v (refill n v.entries w) ≡ with_written m w
-refilled_back v m e n long w = ap (λ k. with_entries v (refill k v.entries w)) long ∙ ap (λ c. with_written c w) e
+use Rattle.vecmap_map.specs.{Contents.{Contents, FindsOrAppends}, MapBulk.MakesClones}
 
 ruleset appended = (is_some_lookup_by, lookup_by_append, slice_get_last, index_by_appended, index_stays, length-append)
 

@@ -2,15 +2,14 @@
 -- is then found is known of items, by induction on the list. A written pair keeps its key, so each fact on pairs is one
 -- on items.
 use Rattle.std.specs.{List.swap_remove, Option.{option_map_or, option_map, option_and_then}}
-use Rattle.std.proofs.Common.{◌≡◌, ℕ, zero, suc, ◌<◌, List, [], ◌∷◌, ◌++◌, Some, ap, arith, length, refl, remove, set, slice_get, sym, ◌∙◌, None, Bool}
-use Rattle.std.proofs.{Math.{Bridge.le_prop, Nat.{eq-or-lt_of_le, le_refl}}, lemmas.List.{get_or-set_other, get_or_default, length-set, set-set, take-set-le}}
+use Rattle.std.proofs.Common.{◌≡◌, ℕ, zero, suc, ◌<◌, List, [], ◌∷◌, ◌++◌, Some, ap, arith, length, refl, remove, set, slice_get, sym, ◌∙◌, Bool}
+use Rattle.std.proofs.{Math.{Bridge.le_prop, Nat.{eq-or-lt_of_le}}, lemmas.List.{get_or-set_other, get_or_default, length-set, set-set, take-set-le}}
 use Rattle.vecmap_base.specs.{Items.swap_without, Pairs.{value_at, with_value, index_of, lookup, put, swap_without_by, without_by}}
 use Rattle.vecmap_base.proofs.PairsLemmas.ByIndex.{lookup_by_index, put_by_index, without_by_index}
 pub use Rattle.vecmap_base.proofs.IndexLemmas.{slice_get_last}
-use Rattle.vecmap_map.specs.Contents.{KeepsRoomAt, with_value_at, Contents}
-use Rattle.vecmap_map.specs.Entry.{IsInserted, LeavesSame, occupied_with, entries_swap_without, entries_with, entries_without, entry_index_of, entry_key, entry_map, entry_value}
-use Rattle.vecmap_map.specs.{EntryWithin.still_within, declared.entry.{Entry.{Entry, TheVariants.{Occupied, Vacant}}, occupied.OccupiedEntry.OccupiedEntry}}
-use Rattle.vecmap_map.specs.declared.entry.vacant.VacantEntry.{VacantEntry}
+use Rattle.vecmap_map.specs.Contents.{with_value_at, Contents}
+use Rattle.vecmap_map.specs.Entry.{LeavesSame, occupied_with, entries_swap_without, entries_with, entries_without, entry_index_of, entry_key, entry_map, entry_value}
+use Rattle.vecmap_map.specs.{EntryWithin.still_within, declared.entry.{Entry.{Entry, TheVariants.{Occupied}}, occupied.OccupiedEntry.OccupiedEntry}}
 
 module _ {X : Type 0} where
   pub item_there : (l : List X) (i : ℕ) → i < length l → (x : X) × (slice_get l i ≡ Some x)
@@ -79,17 +78,6 @@ module _ {K V : Type 0} (o : OccupiedEntry K V) (v : V) where
 
   pub leaves_same : LeavesSame (Occupied o) (Occupied (occupied_with o v))
   leaves_same = grind (arith, with_value_twice, remove_written, swap_without_written)
-
--- The entry that `insert_entry` returns.
-module _ {K V : Type 0} (is_clone : K → K → Type 0) where
-  pub occupied_inserted : (o : OccupiedEntry K V) (v : V) (h : o.index < length (with_value o.map.now.entries o.index v))
-      → IsInserted is_clone (Occupied o) v (record o { map = record o.map { now = with_value_at o.map.now o.index v }; within = h })
-  occupied_inserted o v h = grind (arith, value_at_written, le_refl)
-
-  -- The entry d holds the map of e, to which a clone k of the key of e was appended.
-  pub vacant_inserted : (e : VacantEntry K V) (v : V) (d : OccupiedEntry K V) (k : K) → is_clone e.key k → d.map.ghost_name ≡ e.map.ghost_name → d.key ≡ e.key → d.index ≡ length e.map.now.entries
-      → d.map.now.entries ≡ e.map.now.entries ++ (k, v) ∷ [] → KeepsRoomAt None e.map.now d.map.now → IsInserted is_clone (Vacant e) v d
-  vacant_inserted e v d k clone name key end put room = grind (arith, value_last)
 
 module _ {K V : Type 0} (eq : K → K → Bool) where
   pub entries_with_put : (e : Entry K V) (m : Contents K V) (k : K) (v : V) → entry_map e ≡ m → entry_key e ≡ k → entry_index_of e ≡ index_of eq m.entries k → entries_with e v ≡ put eq m.entries k v

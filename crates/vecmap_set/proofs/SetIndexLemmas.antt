@@ -1,10 +1,10 @@
 -- What queries find, and at which indices, after a change of the elements, in the words of contracts.
-use Rattle.std.specs.{Borrow.Bor, Cmp.IsEquivalence, List.{AllByRecursion, IsDistinct, list_any}, Map.IsKeyTest, Option.{option_map_or, option_and_then}}
+use Rattle.std.specs.{Borrow.Bor, Cmp.IsEquivalence, List.{AllByRecursion, IsDistinct, list_any}, Map.IsKeyTest, Option.{option_and_then}}
 use Rattle.std.specs.{Prelude.{IfSome, IfOk, Err, Ok, Result, nat_lt, option_copied}, Set.is_member}
 use Rattle.std.proofs.Common.{IsTrue, ◌≡◌, ◌∙◌, ◌++◌, ◌<◌, ◌-◌, ◌≤◌, ℕ, suc, zero, Bool, true, false, List, [], ◌∷◌, None, Option, Some, ap, arith, get_or, length, position, refl, remove, slice_get, sym, take, is_some, ◌||◌}
 use Rattle.std.proofs.{Math.Bool.or-true, lemmas.{Bool.{cases_Bool, cases_lt, le-ltb, lt-ltb, ltb-true}, List.Folds.list_any-append}}
 use Rattle.std.proofs.lemmas.{Map.Keys.{IsDistinct-head, IsDistinct-tail}, Option.{none-some, slice_get-get_or, slice_get_within}}
-use Rattle.vecmap_base.specs.Items.{put_item, item_index, without_first, add, stored_first}
+use Rattle.vecmap_base.specs.Items.{put_item, item_index, add, stored_first}
 use Rattle.vecmap_base.proofs.{IndexLemmas.{position_cons, later, list_any_position, position_front, position_stays}, ItemsLemmas.Additions.put_item_cons}
 use Rattle.vecmap_set.specs.SetIndices.{FindsAt, IsFoundAt, KeepsMatchIndices, KeepsMatchIndicesBelow, KeepsItemIndices, MovesItemIndex, ShiftsItems}
 pub use Rattle.vecmap_base.proofs.IndexLemmas.{found_item_at, stored_last}
@@ -112,13 +112,6 @@ module _ {T : Type 0} (s r : List T) where
 
   pub items_shift : (i : ℕ) → r ≡ remove s i → ShiftsItems i s r
   items_shift i e = grind (arith, items_before_removal, items_after_removal)
-
-  pub items_shift_first : (test : T → Bool) → r ≡ without_first test s → IfSome (position test s) (λ i. ShiftsItems i s r)
-  items_shift_first test = by_index (position test s)
-    where
-      by_index : (found : Option ℕ) → r ≡ option_map_or (λ i. remove s i) found s → IfSome found (λ i. ShiftsItems i s r)
-      by_index None e = tt
-      by_index (Some i) e = items_shift i e
 
 module _ {T : Type 0} (eq : T → T → Bool) (o : IsEquivalence eq) (s r : List T) where
   pub indices_of_put : (x : T) → r ≡ put_item eq s x → KeepsItemIndices eq s r

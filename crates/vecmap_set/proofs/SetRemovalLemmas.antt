@@ -1,6 +1,6 @@
 -- The records of removals of elements, from the list that is left.
-use Rattle.std.specs.{Cmp.IsEquivalence, List.IsDistinct, List.list_any, List.Sorted.IsPermutation, Map.IsKeyTest, Option.option_to_list}
-use Rattle.std.proofs.Common.{◌≡◌, ◌∙◌, ◌&&◌, ◌-◌, ◌++◌, ◌<◌, ◌≤◌, ◌||◌, ℕ, Bool, IsTrue, List, None, Option, Some, IfSome, ◌∷◌, ap, arith, drop, inl, inr, is_some, length, length-append, position, remove, slice_get, sym, subst, take}
+use Rattle.std.specs.{Cmp.IsEquivalence, List.IsDistinct, List.Sorted.IsPermutation, Map.IsKeyTest, Option.option_to_list}
+use Rattle.std.proofs.Common.{◌≡◌, ◌∙◌, ◌-◌, ◌++◌, ◌<◌, ◌≤◌, ℕ, Bool, List, Option, Some, ◌∷◌, ap, arith, drop, inl, inr, is_some, length, length-append, position, remove, slice_get, sym, subst, take}
 use Rattle.std.proofs.{lemmas.List.{length-take, length-take-le, take-append-drop}, lemmas.List.Sorted.list_any-IsPermutation, lemmas.Map.Keys.IsDistinct-tail, lemmas.Option.same_Some}
 use Rattle.vecmap_base.specs.{Items.{stored_first, swap_without, swap_without_first, without_first}, Kept.Kept}
 use Rattle.vecmap_base.proofs.DistinctLemmas.{distinct_rearranged, distinct_drop, distinct_kept, distinct_take}

@@ -2,7 +2,7 @@
 -- list, and the others follow from it. `eq` is the `==` of the elements. In the examples, `1x` and `1y` are elements that
 -- `eq` calls equal, and are not the same.
 use Rattle.std.specs.List.{IsDistinct, list_any}
-use Rattle.std.specs.Prelude.{◌≡◌, Bool, IsTrue, ◌++◌, ◌∷◌, ◌+◌, ◌||◌, ℕ, List, [], None, Some, false, if◌then◌else◌, is_some, length, not, position, slice_get, true}
+use Rattle.std.specs.Prelude.{◌≡◌, Bool, IsTrue, ◌++◌, ◌∷◌, ◌+◌, ◌||◌, ℕ, List, [], None, Some, false, if◌then◌else◌, length, not, position, slice_get, true}
 use Rattle.std.specs.Set.{is_member}
 use Rattle.vecmap_base.specs.{Items.{add, item_index, put_item}, Lookups.UpdatesMember}
 use Rattle.vecmap_set.specs.{SetContents.{Appends, Contents}, SetIndices.{FindsAt, KeepsItemIndices, KeepsMatchIndices}}

@@ -1,7 +1,7 @@
 -- After `i` items the front is what their additions leave, and the rest is unchanged. A new item is swapped to the end
 -- of the front.
 use Rattle.std.{specs.Set.is_member, proofs.Common.{◌≡◌, ◌+◌, ◌<◌, take, length, get_or, [], ◌∷◌, ◌++◌, sym, ap, ◌∙◌, arith}}
-use Rattle.std.proofs.lemmas.List.{length_push, length-take, take_all, Sorted.IsPermutation-trans}
+use Rattle.std.proofs.lemmas.List.{length_push, length-take, Sorted.IsPermutation-trans}
 use Rattle.vecmap_base.specs.{Comparisons.{comparisons, search_cost}, Items.adds}
 use Rattle.vecmap_base.proofs.DuplicatesLemmas.{ComparisonCounts.{comparisons_below, comparisons_more}, Gather.{front_swapped, rest_more}}
 use Rattle.vecmap_base.proofs.ItemsLemmas.Additions.{adds_more, add_absent, add_present}
@@ -56,7 +56,3 @@ loop-i-preserved g c =
             counted = counted;
           })
     ]
-
-pub returns-clause-counted : goal.returns-clause-counted
-returns-clause-counted g c =
-    c.loop-i.invariant.counted ∙ ap (λ l. c.args.steps.now + comparisons g.T.PartialEq.eq l) (take_all c.loop-i.i c.args.items.now (omega arith))

@@ -2,7 +2,7 @@
 -- permuted.
 use Rattle.std.proofs.Common.{◌≡◌, ◌+◌, ◌<◌, None, take, length, get_or, [], ◌∷◌, ◌++◌, sym, ap, subst, ◌∙◌, arith}
 use Rattle.std.specs.{List.Sorted.IsPermutation, Map.keys_of, Map.values_of}
-use Rattle.std.proofs.lemmas.{Map.Entries.length-values_of, List.length_push, List.length-take, List.take_all}
+use Rattle.std.proofs.lemmas.{Map.Entries.length-values_of, List.length_push, List.length-take}
 use Rattle.std.proofs.lemmas.List.Sorted.{IsPermutation-trans, IsPermutation-map, IsPermutation-swap}
 use Rattle.vecmap_base.specs.{Comparisons.{comparisons, search_cost}, Pairs.{index_of, put, puts}}
 use Rattle.vecmap_base.proofs.DuplicatesLemmas.{ComparisonCounts.{key_comparisons_below, key_comparisons_more}, Gather.{front_put, front_swapped, rest_more}}
@@ -65,7 +65,3 @@ loop-i-preserved g c =
             counted = counted;
           })
     ]
-
-pub returns-clause-counted : goal.returns-clause-counted
-returns-clause-counted g c =
-    c.loop-i.invariant.counted ∙ ap (λ l. c.args.steps.now + comparisons g.K.PartialEq.eq (keys_of l)) (take_all c.loop-i.i c.args.pairs.now (omega arith))

@@ -10,11 +10,6 @@ use Rattle.vecmap_base.proofs.matching.find_free.Goals.{else-not-taken-first-via
 pub returns-in_err-first-clause-none : goal.returns-in_err-first-clause-none
 returns-in_err-first-clause-none g c = λ e. none_free_absent g.K.PartialEq.eq g.V.PartialEq.eq c.args.pairs.now c.args.taken.now c.args.pair.now c.requires.enough c.in_err-first.ensures.index
 
-pub returns-then-eq-clause-unmarked : goal.returns-then-eq-clause-unmarked
-returns-then-eq-clause-unmarked g c =
-    let within = c.in_ok-first.ensures.within in
-    sym (get_or_default c.args.taken.now c.in_ok-first.first false true (omega (arith, within, c.requires.enough))) ∙ c.if-not-taken-first.true
-
 pub returns-then-eq-clause-equal : goal.returns-then-eq-clause-equal
 returns-then-eq-clause-equal g c =
     let pairs = c.args.pairs.now in
@@ -41,11 +36,6 @@ loop-at-init g c =
       | else-not-taken-first-via-else-not-taken-first w ↦ ap (λ (m : Bool). not m && same_pair g.K.PartialEq.eq g.V.PartialEq.eq pair (get_or pairs first pair)) (sym mark ∙ w.if-not-taken-first.false)
     ] in
     none_free_next g.K.PartialEq.eq g.V.PartialEq.eq pairs c.args.taken.now pair first before here
-
-pub returns-then-is_same-clause-unmarked : goal.returns-then-is_same-clause-unmarked
-returns-then-is_same-clause-unmarked g c =
-    let within = c.loop-at-test.true in
-    sym (get_or_default c.args.taken.now c.loop-at.at false true (omega (arith, within, c.requires.enough))) ∙ c.if-not-taken-at.true
 
 pub returns-clause-none : goal.returns-clause-none
 returns-clause-none g c = λ e. none_free (same_pair g.K.PartialEq.eq g.V.PartialEq.eq c.args.pair.now) c.args.pairs.now c.args.taken.now c.args.pair.now c.requires.enough (λ k lt. c.loop-at.invariant k (let end = c.loop-at-test.false in omega (arith, lt, end)))

@@ -1,6 +1,6 @@
 -- The loop keeps `KeptSoFar`: the front has the kept items, as they were written. Each call extends it by one item.
-use Rattle.std.{specs.Prelude.{◌≡◌, ◌<◌, ◌≤◌, length}, proofs.{Common.{arith, get_or, ◌∙◌}, lemmas.List.length-set}}
-use Rattle.vecmap_base.proofs.{KeptLemmas.{callable_here, kept_all, kept_not, kept_one}, retain.retain.Goals.{else-keeps, then-keeps}}
+use Rattle.std.{specs.Prelude.{◌≡◌, ◌<◌, length}, proofs.{Common.{arith, get_or, ◌∙◌}, lemmas.List.length-set}}
+use Rattle.vecmap_base.proofs.{KeptLemmas.{callable_here, kept_not, kept_one}, retain.retain.Goals.{else-keeps, then-keeps}}
 use Rattle.vecmap_base.proofs.retain.retain.Goals as goal
 
 pub keeps-requires : goal.keeps-requires
@@ -38,8 +38,3 @@ loop-i-preserved g c =
             capacity = c.loop-i.invariant.capacity;
           })
     ]
-
-pub returns-clause-retained : goal.returns-clause-retained
-returns-clause-retained g c =
-    let done : length c.args.items.now.items ≤ c.loop-i.i = omega (arith, c.loop-i-test.false, c.len-i-end.ensures, c.args.items.now.ok.0) in
-    (c.loop-i.asked, kept_all g.A.Predicate.step c.args.asked c.loop-i.asked _ _ c.loop-i.kept c.loop-i.i _ c.loop-i.invariant.kept done c.truncate.ensures.items)

@@ -70,9 +70,6 @@ returns-in-Less-clause-index g c =
     (λ d. sym (by base _ (omega arith) c.f-2.ensures d) ∙ c.in-Less.is)
     (c.loop-size-2.invariant.narrowed ord by)
 
-pub returns-in-Equal-clause-index : goal.returns-in-Equal-clause-index
-returns-in-Equal-clause-index g c = λ ord by d. sym (by c.loop-size-2.base _ (omega arith) c.f-2.ensures d) ∙ c.in-Equal.is
-
 pub returns-clause-index : goal.returns-clause-index
 returns-clause-index g c =
     let base = c.loop-size-2.base in

@@ -1,27 +1,7 @@
 -- The call stops at the insertion that runs out of memory.
 use Rattle.std.proofs.{Common.{arith, inr, rules}, iter.runs.Consumers.total_runs, lemmas.{Grind.common_steps, Result.err_from_is_err_and}}
-use Rattle.vecmap_base.{specs.Lookups.Joins, proofs.PairsLemmas.{ManyPairs.joins_of_puts, Puts.length_put_at_most}}
+use Rattle.vecmap_base.{specs.Lookups.Joins, proofs.PairsLemmas.{ManyPairs.joins_of_puts}}
 use Rattle.vecmap_map.proofs.VecMap.extend.Goals as goal
-
-pub loop-key-preserved-in_ok-insert : goal.loop-key-preserved-in_ok-insert
-loop-key-preserved-in_ok-insert g c = record {
-  can = grind (arith, common_steps);
-  finite = grind (arith, common_steps);
-  entries = grind (arith, common_steps, c.in_ok-insert.ensures.insertion.entries);
-  capacity = grind (arith, c.in_ok-insert.ensures.capacity);
-  room = grind (arith, common_steps, length_put_at_most);
-  stays = grind (arith, common_steps, length_put_at_most);
-}
-
-pub loop-key-preserved : goal.loop-key-preserved
-loop-key-preserved g c = record {
-  can = grind (arith, common_steps);
-  finite = grind (arith, common_steps);
-  entries = grind (arith, common_steps, c.in_ok-insert.ensures.insertion.entries);
-  capacity = grind (arith, c.in_ok-insert.ensures.capacity);
-  room = grind (arith, common_steps, length_put_at_most);
-  stays = grind (arith, common_steps, length_put_at_most);
-}
 
 pub returns-clause-ran : goal.returns-clause-ran
 returns-clause-ran g c = search rules

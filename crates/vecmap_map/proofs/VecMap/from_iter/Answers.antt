@@ -7,11 +7,6 @@ returns-clause-list g c =
     let ran = c.in_ok-extend.ensures.ran in
     (ran.0, ran.1, ran.2, ran.4, ran.3 ∙ ap (λ l. puts g.K.PartialEq.eq l ran.1) c.new-map.ensures.list)
 
-pub returns-clause-distinct : goal.returns-clause-distinct
-returns-clause-distinct g c =
-    let made = returns-clause-list g c in
-    (makes_pairs g.K.PartialEq.eq g.met.K.Eq.laws made.1 _ made.4).distinct
-
 pub returns-clause-runs : goal.returns-clause-runs
 returns-clause-runs g c =
     let made = returns-clause-list g c in

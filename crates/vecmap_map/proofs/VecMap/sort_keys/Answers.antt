@@ -7,6 +7,3 @@ returns-clause-sorted g c = on_ok_weaker c.sort_by.result (λ h. h _ (ranks_by g
 
 pub returns-clause-keys_sorted : goal.returns-clause-keys_sorted
 returns-clause-keys_sorted g c = on_ok_weaker c.sort_by.result (keys_sorted g.K.Ord.cmp _) (returns-clause-sorted g c)
-
-pub returns-clause-stable : goal.returns-clause-stable
-returns-clause-stable g c = c.sort_by.ensures.stable _ (ranks_by g.met.K.Ord.total (λ p. p.0)) (λ a b r k. search rules)

@@ -2,9 +2,6 @@ use Rattle.std.proofs.Common.{arith}
 use Rattle.vecmap_base.proofs.{PairsLemmas.ByIndex.{by_index, pair_found, swapped_out}, RemovalLemmas.{finds_pair, swap_removes_by}}
 use Rattle.vecmap_map.proofs.VecMap.swap_remove_entry.Goals as goal
 
-pub returns-in_err-index-clause-item : goal.returns-in_err-index-clause-item
-returns-in_err-index-clause-item g c = finds_pair (g.Q.Equivalent.equivalent c.args.query) _ _ (grind (arith, by_index))
-
 pub returns-in_err-index-clause-removal : goal.returns-in_err-index-clause-removal
 returns-in_err-index-clause-removal g c = swap_removes_by (g.Q.Equivalent.equivalent c.args.query) _ g.K.PartialEq.eq g.met.K.Eq.laws (g.met.Q.Equivalent.respects_eq c.args.query) _ (grind (arith, by_index))
 

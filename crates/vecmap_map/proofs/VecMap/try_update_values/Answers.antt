@@ -13,9 +13,3 @@ returns-clause-err g c =
     let new = c.try_update_pairs.new.pairs in
     let long : length new ≡ c.self.inside.pairs.len = omega (arith, c.try_update_pairs.ensures.keys.len, c.deref_mut.ensures.len) in
     rw (take_at new (drop (length new) c.self.inside.pairs.items) c.self.inside.pairs.len long, ← c.self.view_is, ← c.deref_mut.ensures.value) c.try_update_pairs.ensures.err
-
-pub returns-clause-keys : goal.returns-clause-keys
-returns-clause-keys g c =
-    let new = c.try_update_pairs.new.pairs in
-    let long : length new ≡ c.self.inside.pairs.len = omega (arith, c.try_update_pairs.ensures.keys.len, c.deref_mut.ensures.len) in
-    rw (take_at new (drop (length new) c.self.inside.pairs.items) c.self.inside.pairs.len long, ← c.self.view_is, ← c.deref_mut.ensures.value) c.try_update_pairs.ensures.keys

@@ -14,11 +14,5 @@ invariant_of-self g c =
 pub returns-in-Some-clause-insertion : goal.returns-in-Some-clause-insertion
 returns-in-Some-clause-insertion g c = puts_item g.T.PartialEq.eq g.met.T.Eq.laws c.args.self.now.elements _ (invariant_of-self g c) c.args.item (search (rules, list_any_position, gets))
 
-pub returns-clause-insertion : goal.returns-clause-insertion
-returns-clause-insertion g c = puts_item g.T.PartialEq.eq g.met.T.Eq.laws c.args.self.now.elements _ (search rules) c.args.item (search (rules, list_any_position, gets))
-
 pub returns-in-Some-clause-returned : goal.returns-in-Some-clause-returned
 returns-in-Some-clause-returned g c = finds_item (g.T.PartialEq.eq c.args.item) c.args.self.now.elements _ (search (rules, gets))
-
-pub returns-clause-returned : goal.returns-clause-returned
-returns-clause-returned g c = finds_item (g.T.PartialEq.eq c.args.item) c.args.self.now.elements _ (search (rules, gets))

@@ -1,5 +1,5 @@
 use Rattle.std.proofs.Common.{Some, rules}
-use Rattle.vecmap_set.proofs.{SetIndexLemmas.items_shift_first, SetRemovalLemmas.{finds_item, removes_item_by}}
+use Rattle.vecmap_set.proofs.{SetRemovalLemmas.{finds_item, removes_item_by}}
 use Rattle.vecmap_set.proofs.VecSet.take.Goals as goal
 
 pub returns-in_err-index-clause-item : goal.returns-in_err-index-clause-item
@@ -15,9 +15,3 @@ returns-clause-item g c = finds_item (g.Q.Equivalent.equivalent c.args.query) c.
 pub returns-clause-removal : goal.returns-clause-removal
 returns-clause-removal g c =
     removes_item_by g.T.PartialEq.eq g.met.T.Eq.laws (g.Q.Equivalent.equivalent c.args.query) (g.met.Q.Equivalent.respects_eq c.args.query) c.args.self.now.elements _ (search rules) (search rules)
-
-pub returns-in_err-index-clause-indices : goal.returns-in_err-index-clause-indices
-returns-in_err-index-clause-indices g c = items_shift_first c.args.self.now.elements _ (g.Q.Equivalent.equivalent c.args.query) (returns-in_err-index-clause-removal g c).elements
-
-pub returns-clause-indices : goal.returns-clause-indices
-returns-clause-indices g c = items_shift_first c.args.self.now.elements _ (g.Q.Equivalent.equivalent c.args.query) (returns-clause-removal g c).elements

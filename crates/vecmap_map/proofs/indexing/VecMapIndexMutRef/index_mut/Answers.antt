@@ -1,6 +1,0 @@
-use Rattle.std.proofs.Common.{arith}
-use Rattle.vecmap_base.proofs.PairsLemmas.ByIndex.{by_index}
-use Rattle.vecmap_map.proofs.indexing.VecMapIndexMutRef.index_mut.Goals as goal
-
-pub returns : goal.returns
-returns g c = (grind (arith, by_index), record { writes_back = tt; value = grind (arith, by_index); writes = c.present_index-index.ensures.writes })
