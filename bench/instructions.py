@@ -11,7 +11,7 @@ import subprocess
 import sys
 
 ROWS = ["get hit", "get miss", "insert new", "insert present", "entry present", "remove+insert", "retain half"]
-ROWS += ["From<Vec> distinct", "iter", "set contains"]
+ROWS += ["drain half", "split_off half", "From<Vec> distinct", "iter", "set contains"]
 LIBRARIES = ["vecmap", "vecmap-rs", "before"]
 
 

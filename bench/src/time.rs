@@ -67,13 +67,17 @@ fn rounds_timed<T>(row: &Row<T>, run: Loop<T>, rounds: u64) -> f64 {
     f64::max(timed(row, run, rounds).0 - setup, 1e-9)
 }
 
+/// The least part of the time of the rounds that is left without their clones. The time of a clone varies as much.
+const LEAST_PART: f64 = 0.2;
+
 /// The same, without the clones that the rounds make, if `clone` is the loop that makes one in each round.
 fn rounds_less_clones<T>(row: &Row<T>, run: Loop<T>, clone: Option<Loop<T>>, rounds: u64) -> f64 {
     let seconds = rounds_timed(row, run, rounds);
     let (Some((_, count)), Some(clone)) = (row.clones, clone) else {
         return seconds;
     };
-    f64::max(seconds - f64::from(count) * rounds_timed(row, clone, rounds), 1e-9)
+    let clones = f64::from(count) * rounds_timed(row, clone, rounds);
+    f64::max(seconds - clones, LEAST_PART * seconds)
 }
 
 /// Returns the loops of the row of the clone, one for each loop of a row that clones.
