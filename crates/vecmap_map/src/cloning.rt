@@ -9,7 +9,7 @@ use std::alloc::AllocError;
 impl<K, V> VecMap<K, V> {
     /// Returns a map of clones of the pairs, in order.
     ///
-    /// If each clone is the same as its original, as of numbers, the map has the same list (`same`).
+    /// If each clone is the same as its original, as of numbers, the map has the same list (`copy.same`).
     ///
     /// # Errors
     ///

@@ -38,8 +38,8 @@ impl<K: Eq, V: PartialEq> PartialEq for VecMap<K, V> {
     ghost laws = { on_per (λ map. map.entries) (partial_map_equality_laws K.eq V.eq K.Eq.laws V.laws) };
 
     fn eq(&self, other: &VecMap<K, V>) -> bool
-        // One equation without a label: by another contract a derived `==` of a type that holds a map is not proved ("antt
-        // refuses what rattle made for the borrow checker's part in its proof").
+        // One equation without a label: by another contract a derived `==` of a type that holds a map is not proved
+        // ("antt refuses what rattle made for the borrow checker's part in its proof").
         ensures { result ≡ has_same_counts K.eq V.eq self.now.entries other.now.entries }
     {
         pairs_equal(&self.pairs, &other.pairs)

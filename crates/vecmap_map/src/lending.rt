@@ -48,8 +48,9 @@ impl<K, V> VecMap<K, V> {
 
     /// Returns the first pair, with a mutable reference to its value, or `None` if the map is empty.
     ///
-    /// If it returns `None`, the map is unchanged. A caller without a proof file knows which pair the reference points to,
-    /// but not what the map holds afterwards. [`VecMap::first_value_mut`] and, below a test of the length, [`VecMap::pair_mut`] say both.
+    /// If it returns `None`, the map is unchanged. A caller without a proof file knows which pair the reference points
+    /// to, but not what the map holds afterwards. [`VecMap::first_value_mut`] and, below a test of the length,
+    /// [`VecMap::pair_mut`] say both.
     ///
     /// # Examples
     ///
@@ -70,8 +71,9 @@ impl<K, V> VecMap<K, V> {
 
     /// Returns the last pair, with a mutable reference to its value, or `None` if the map is empty.
     ///
-    /// If it returns `None`, the map is unchanged. A caller without a proof file knows which pair the reference points to,
-    /// but not what the map holds afterwards. [`VecMap::last_value_mut`] and, below a test of the length, [`VecMap::pair_mut`] say both.
+    /// If it returns `None`, the map is unchanged. A caller without a proof file knows which pair the reference points
+    /// to, but not what the map holds afterwards. [`VecMap::last_value_mut`] and, below a test of the length,
+    /// [`VecMap::pair_mut`] say both.
     ///
     /// # Examples
     ///
@@ -96,8 +98,9 @@ impl<K, V> VecMap<K, V> {
     /// Returns the index and the stored key of the first pair whose key matches `query`, with a mutable reference to
     /// its value, or `None` if no key matches.
     ///
-    /// If it returns `None`, the map is unchanged. A caller without a proof file knows which pair the reference points to,
-    /// but not what the map holds afterwards. [`VecMap::get_mut`] and, with the index of the key, [`VecMap::pair_mut`] say both.
+    /// If it returns `None`, the map is unchanged. A caller without a proof file knows which pair the reference points
+    /// to, but not what the map holds afterwards. [`VecMap::get_mut`] and, with the index of the key,
+    /// [`VecMap::pair_mut`] say both.
     ///
     /// # Examples
     ///
@@ -128,8 +131,9 @@ impl<K, V> VecMap<K, V> {
 
     /// Returns the pair at `index`, with a mutable reference to its value, or `None` if `index` is out of range.
     ///
-    /// If it returns `None`, the map is unchanged. A caller without a proof file knows which pair the reference points to,
-    /// but not what the map holds afterwards. [`VecMap::get_value_at_mut`] and, below a test of the index, [`VecMap::pair_mut`] say both.
+    /// If it returns `None`, the map is unchanged. A caller without a proof file knows which pair the reference points
+    /// to, but not what the map holds afterwards. [`VecMap::get_value_at_mut`] and, below a test of the index,
+    /// [`VecMap::pair_mut`] say both.
     ///
     /// # Examples
     ///
