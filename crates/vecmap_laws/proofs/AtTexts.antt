@@ -1,40 +1,13 @@
--- Queries of two parts, as two texts for two strings, and the lemmas of the rulesets at texts: `grind` sees the `==` of
--- texts as it computes, so it matches a lemma that is stated of it, and not one of any `==`.
-use Rattle.std.specs.{Borrow.Bor, Cmp.{nat_eq_equiv, on_equiv, Lexicographic.nat_list_eq_equiv}, Map.{IsKeyTest, set_value}, String.string_eq_equiv}
+-- The lemmas of the rulesets at texts: `grind` sees the `==` of texts as it computes, so it matches a lemma that is
+-- stated of it, and not one of any `==`.
+use Rattle.std.specs.{Borrow.Bor, Cmp.{nat_eq_equiv, on_equiv, Lexicographic.nat_list_eq_equiv}, Map.{set_value}, String.string_eq_equiv}
 use Rattle.std.specs.{contracts.prelude.RefStrPartialEq.TheImpl.eq-value, declared.alloc.Global.Global}
-use Rattle.std.proofs.Common.{◌≡◌, ◌∙◌, ◌&&◌, ℕ, Bool, List, String, ap, bytes_eq, false, refl, string_bytes, string_eq, true, rules, None, Some, IsSome, IsTrue, eqb-true, if◌then◌else◌, nat_eq, subst, sym}
-use Rattle.std.proofs.lemmas.Bool.{and_parts}
+use Rattle.std.proofs.Common.{◌≡◌, ◌∙◌, ℕ, Bool, List, String, bytes_eq, false, refl, string_eq, true, rules, None, Some, IsSome, IsTrue, eqb-true, if◌then◌else◌, nat_eq, subst, sym}
 use Rattle.vecmap_base.specs.{Equality.has_same_counts, Pairs.{has_text, HasDistinctKeys, lookup, lookup_by, put, without_by}}
 use Rattle.vecmap_base.specs.contracts.equivalent.RefStrEquivalent.TheImpl.{equivalent-value}
 use Rattle.vecmap_base.proofs.PairsLemmas.Updates.{updates_write}
-use Rattle.vecmap_laws.specs.MapLaws.{both_equal, has_texts}
 use Rattle.vecmap_laws.proofs.{LookupLemmas.lookup_without_apart, MapEquality.lookups_of_equal, PutLemmas.put_put}
-use Rattle.vecmap_laws.proofs.QueryLemmas.{same_text, text_respects, texts_apart, lookup_written_other_text, lookup_put_any_query, lookup_without_query, same_texts, string_equality}
-
--- A query of two parts matches a key and its equals alone, if each part does.
-pub parts_respect : {A B : Type 0} (a : A → A → Bool) (b : B → B → Bool) (f : A → Bool) (g : B → Bool) → IsKeyTest a f → IsKeyTest b g → IsKeyTest {K = A × B} (λ x y. a x.0 y.0 && b x.1 y.1) (λ x. f x.0 && g x.1)
-parts_respect a b f g p q x y h = let both = and_parts (f x.0) (g x.1) h in λ j. p x.0 y.0 both.0 j && q x.1 y.1 both.1 j
-
-pub texts_respect : (first second : List ℕ) → IsKeyTest both_equal (has_texts first second)
-texts_respect first second = parts_respect string_eq string_eq (has_text first) (has_text second) (text_respects first) (text_respects second)
-
-pub own_texts : (k : String Global × String Global) → has_texts (string_bytes k.0) (string_bytes k.1) k ≡ true
-own_texts k = λ j. same_text (string_bytes k.0) k.0 refl j && same_text (string_bytes k.1) k.1 refl j
-
--- Two such queries that differ in a part match no key in common.
-pub text_pairs_apart : (first second third fourth : List ℕ) → (bytes_eq first third && bytes_eq second fourth) ≡ false → (k : String Global × String Global) → has_texts first second k ≡ true → has_texts third fourth k ≡ false
-text_pairs_apart first second third fourth n k h = by (bytes_eq first third) refl n
-  where
-    both : (has_text first k.0 ≡ true) × (has_text second k.1 ≡ true)
-    both = and_parts (has_text first k.0) (has_text second k.1) h
-
-    without : (b : Bool) → (b && false) ≡ false
-    without true = refl
-    without false = refl
-
-    by : (b : Bool) → bytes_eq first third ≡ b → (b && bytes_eq second fourth) ≡ false → has_texts third fourth k ≡ false
-    by true e m = ap (λ b. has_text third k.0 && b) (texts_apart second fourth m k.1 both.1) ∙ without (has_text third k.0)
-    by false e m = ap (λ b. b && has_text fourth k.1) (texts_apart first third e k.0 both.0)
+use Rattle.vecmap_laws.proofs.QueryLemmas.{text_respects, texts_apart, lookup_written_other_text, lookup_put_any_query, lookup_without_query, same_texts, string_equality}
 
 module _ {A V : Type 0} where
   pub put_put_of_texts : (l : List (String A × V)) (k : String A) (v w : V) → put string_eq (put string_eq l k v) k w ≡ put string_eq l k w

@@ -1,5 +1,5 @@
 -- Lemmas for common goals, in lists that a function names by `using(vecmap_laws::proofs::Rules::..)`.
-use Rattle.std.specs.{Prelude.{◌≡◌, Bool, Err, List, Ok, OnErr, Result, []}, List.IsDistinct}
+use Rattle.std.specs.{Prelude.{◌≡◌, Bool, List, []}, List.IsDistinct}
 use Rattle.std.proofs.{Common.{subst, sym}, lemmas.Map.Steps.lookup-le-sum}
 use Rattle.vecmap_base.specs.Pairs.{HasDistinctKeys}
 use Rattle.vecmap_base.proofs.{DistinctLemmas.{distinct_none, distinct_add, distinct_adds}, ItemsLemmas.Members.is_member_adds}
@@ -44,11 +44,6 @@ pub ruleset elements = (item_index_add, slice_get_add)
 
 -- The elements are distinct in an empty list, after an addition and after many.
 pub ruleset distinct_elements = (distinct_no_elements, distinct_add, distinct_adds)
-
--- A fact, as a clause on errors states it.
-pub on_err : {T E P : Type 0} (r : Result T E) → P → OnErr r P
-on_err (Ok x) p = tt
-on_err (Err e) p = p
 
 -- After calls that change one key.
 pub ruleset of_one_key = (lookup_put_any, lookup_without_any, lookup_without_key_other, lookup_swap_without_key, present, distinct_put, distinct_without_key, distinct_keys_swap_without_key)

@@ -2,9 +2,6 @@ use Rattle.std.proofs.{Common.{rules, ◌≡◌, ◌∙◌, ℕ, Bool, None, ap,
 use Rattle.vecmap.specs.Pairs.{lookup}
 use Rattle.vecmap_callers.proofs.registry.drop_listed.Goals as goal
 
-pub returns-clause-entries : goal.returns-clause-entries
-returns-clause-entries c = c.retain.ensures.selection.left.filters (λ p. not (is_some (lookup nat_eq c.args.listed.now.entries p.0))) (λ x b y g call. search rules)
-
 pub returns-clause-lookups : goal.returns-clause-lookups
 returns-clause-lookups c = λ key.
     let stays : ℕ → Bool = λ k. not (is_some (lookup nat_eq c.args.listed.now.entries k)) in

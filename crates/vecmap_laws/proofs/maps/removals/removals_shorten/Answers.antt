@@ -12,6 +12,3 @@ returns-clause-swap g c = λ l k. ap length (swap_without_by_is (g.K.PartialEq.e
 
 pub returns-clause-by_index : goal.returns-clause-by_index
 returns-clause-by_index g c = λ l i k v. length_by_index remove remove_leaves l i (k, v)
-
-pub returns-clause-swap_by_index : goal.returns-clause-swap_by_index
-returns-clause-swap_by_index g c = λ l i k v. length_by_index swap_without swap_leaves l i (k, v)

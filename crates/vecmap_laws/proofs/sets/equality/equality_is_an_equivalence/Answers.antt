@@ -5,9 +5,6 @@ use Rattle.vecmap_laws.proofs.sets.equality.equality_is_an_equivalence.Goals as 
 pub returns-clause-reflexive : goal.returns-clause-reflexive
 returns-clause-reflexive g c = (set_equality_laws g.T.PartialEq.eq g.met.T.Eq.laws).refl
 
-pub returns-clause-symmetric : goal.returns-clause-symmetric
-returns-clause-symmetric g c = (set_equality_laws g.T.PartialEq.eq g.met.T.Eq.laws).symm
-
 pub returns-clause-transitive : goal.returns-clause-transitive
 returns-clause-transitive g c =
     let laws = set_equality_laws g.T.PartialEq.eq g.met.T.Eq.laws in
