@@ -17,7 +17,7 @@ LIBRARIES = ["vecmap", "vecmap-rs", "before"]
 
 def total(program, library, row, size, rounds):
     """Returns the instructions of a run, and what it prints on a round, which is nothing if there is no such loop."""
-    settings = {**os.environ, "COUNTED": library, "ROUNDS": str(rounds), "SIZES": str(size)}
+    settings = {**os.environ, "COUNTED": library, "ROUNDS": str(rounds), "SIZES": str(size), "KIT_SIZES": ""}
     command = ["valgrind", "--tool=callgrind", "--callgrind-out-file=/dev/null", program, row]
     ran = subprocess.run(command, capture_output=True, text=True, env=settings, check=True)
     return int(re.search(r"Collected : (\d+)", ran.stderr)[1]), ran.stdout.strip()
