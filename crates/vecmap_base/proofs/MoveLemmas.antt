@@ -88,6 +88,11 @@ module _ {X : Type 0} where
   pub replaced_and_moved : (xs : List X) (i to : ℕ) (x d : X) → i < length xs → insert (remove (set xs i x) i) to (get_or (set xs i x) i d) ≡ insert (remove xs i) to x
   replaced_and_moved xs i to x d within = grind (arith, take-set-le, drop-set-lt, get_or-set_same)
 
+  -- An item that is inserted at the end is the last.
+  inserted_last : (xs : List X) (x : X) → insert xs (length xs) x ≡ xs ++ x ∷ []
+  inserted_last [] x = refl
+  inserted_last (y ∷ ys) x = ap (λ l. y ∷ l) (inserted_last ys x)
+
   -- An inserted item is removed.
   pub inserted_removed : (xs : List X) (i : ℕ) (x : X) → i ≤ length xs → remove (insert xs i x) i ≡ xs
   inserted_removed [] zero x within = refl
@@ -161,6 +166,14 @@ module _ {X : Type 0} where
       let moved : insert ys (suc from) x ≡ insert xs to item = sym (ap (λ m. insert ys m x) after) ∙ e in (
         sym (inserted_removed ys (suc from) x long) ∙ ap (λ l. remove l (suc from)) moved ∙ remove_after xs from to item order within,
         sym (found_after xs from to item order within) ∙ ap (λ l. slice_get l (suc from)) (sym moved) ∙ inserted_found ys (suc from) x long,
+      )
+
+  -- The last item `last` of `xs` is taken, and each item from `i` on takes the place before its own.
+  pub carried_over : (xs front ys : List X) (i end : ℕ) (last x : X) → xs ≡ front ++ last ∷ [] → end ≡ length front → i ≤ length ys → insert ys i x ≡ insert front end last → (ys ≡ remove xs i) × (slice_get xs i ≡ Some x)
+  carried_over xs front ys i end last x taken at long e =
+      let whole : insert ys i x ≡ xs = e ∙ rw (at) (inserted_last front last) ∙ sym taken in (
+        sym (inserted_removed ys i x long) ∙ ap (λ l. remove l i) whole,
+        ap (λ l. slice_get l i) (sym whole) ∙ inserted_found ys i x long,
       )
 
   -- Where a moved item is, in the word of contracts.

@@ -117,8 +117,12 @@ pub fn remove_item<T>(items: &mut Vec<T>, index: usize) -> T
     ensures capacity { vec_capacity items.new ≡ vec_capacity items.old }
 {
     // If one item follows, it moves to the index of the removed item. If none follows, nothing moves.
-    if items.len() - index <= 2 {
+    let count = items.len() - index;
+    if count <= 2 {
         return items.swap_remove(index);
+    }
+    if count <= MAX_CARRIED_LEFT && size_of_val(&items[index]) <= MAX_BYTES_FOR_CARRYING {
+        return remove_and_carry(items, index);
     }
     let at = move_by_parts(items, index);
     remove_and_shift(items, at)
@@ -159,6 +163,19 @@ pub fn insert_reserved<T>(items: &mut Vec<T>, index: usize, item: T)
     }
     items.push_reserved(item);
     items[index..].rotate_right(1);
+}
+
+// Like `remove_item`, by taking the last item, and carrying it to the left.
+#[inline]
+fn remove_and_carry<T>(items: &mut Vec<T>, index: usize) -> T
+    requires within { index < length items.old.items }
+    ensures item { slice_get items.old.items index ≡ Some result }
+    ensures list { items.new.items ≡ remove items.old.items index }
+    ensures capacity { vec_capacity items.new ≡ vec_capacity items.old }
+{
+    let last = items.take_last();
+    let end = items.len();
+    carry_left(items, index, end, last)
 }
 
 // Like `remove_item`, by one rotation of the item and the items after it. Large items move by `Vec::remove`.
