@@ -190,7 +190,7 @@ fn is_any_of_four<T: Eq, Q: Equivalent<T>>(items: &[T], at: usize, query: Q) -> 
 }
 
 // Returns `true` if an item matches `query`. No item before `from` matches.
-fn is_any_from<T: Eq, Q: Equivalent<T>>(items: &[T], from: usize, query: Q) -> bool
+pub(crate) fn is_any_from<T: Eq, Q: Equivalent<T>>(items: &[T], from: usize, query: Q) -> bool
     requires within { from ≤ length items.now }
     requires none_before { list_any (Q.equivalent query) (take from items.now) ≡ false }
     ensures found { result ≡ list_any (Q.equivalent query) items.now }
