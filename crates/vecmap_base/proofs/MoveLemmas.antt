@@ -1,9 +1,9 @@
 -- A rotation by one of the part between two indices moves one item from one index to the other. Replacing each item of
 -- the part by the one next to it does the same.
-use Rattle.std.specs.{List.Sorted.IsPermutation, Option.option_map_or}
+use Rattle.std.specs.{List.Sorted.IsPermutation, List.SwappedAt, Option.option_map_or}
 use Rattle.std.proofs.Common.{◌≡◌, ℕ, zero, suc, ◌+◌, ◌-◌, ◌<◌, ◌≤◌, List, [], ◌∷◌, ◌++◌, ap, arith, append_assoc, drop, drop_at, get_or, insert, length, length-take-le, nat_eq, false, refl, remove, reverse, set, slice_get, swap, Some, subst, sym, take, take_at, true≢false, ◌∙◌}
 use Rattle.std.proofs.{lemmas.Bool.eq-eqb, lemmas.List.Edits.{length-remove, swap_is}, lemmas.Grind.get_or-set_at}
-use Rattle.std.proofs.lemmas.List.{drop-set-lt, get_or-reverse, get_or-set_other, get_or-set_same, length-reverse, length-set, take-set-le, take_more}
+use Rattle.std.proofs.lemmas.List.{length-append, drop-set-lt, get_or_append_left, get_or-append_right, get_or-reverse, get_or-set_other, get_or-set_same, length-reverse, length-set, take-set-le, take_more}
 use Rattle.std.proofs.lemmas.List.Sorted.{IsPermutation-insert, IsPermutation-remove, IsPermutation-trans}
 use Rattle.std.proofs.lemmas.Option.{get_or_from_slice_get, slice_get-get_or}
 use Rattle.vecmap_base.specs.Items.{moved}
@@ -175,6 +175,36 @@ module _ {X : Type 0} where
         sym (inserted_removed ys i x long) ∙ ap (λ l. remove l i) whole,
         ap (λ l. slice_get l i) (sym whole) ∙ inserted_found ys i x long,
       )
+
+  set_at_seam : (front : List X) (w : X) (rest : List X) (x : X) → set (front ++ w ∷ rest) (length front) x ≡ front ++ x ∷ rest
+  set_at_seam [] w rest x = refl
+  set_at_seam (z ∷ front) w rest x = ap (λ l. z ∷ l) (set_at_seam front w rest x)
+
+  set_both : (front : List X) (w : X) (rest : List X) (low : ℕ) (x : X) → low < length front → set (set (front ++ w ∷ rest) low w) (length front) x ≡ set front low w ++ x ∷ rest
+  set_both [] w rest low x less = absurd (omega arith)
+  set_both (z ∷ front) w rest zero x less = ap (λ l. w ∷ l) (set_at_seam front w rest x)
+  set_both (z ∷ front) w rest (suc low) x less = ap (λ l. z ∷ l) (set_both front w rest low x (omega arith))
+
+  -- An item of the front and the first of the rest are exchanged.
+  pub joined_swap : (front rest : List X) (low high : ℕ) (x y d e : X) → length front ≡ high → low < high → 0 < length rest → y ≡ get_or rest 0 e → x ≡ get_or front low d → set front low y ++ set rest 0 x ≡ swap (front ++ rest) low high
+  joined_swap front [] low high x y d e long less more f b = absurd (omega arith)
+  joined_swap front (w ∷ rest) low high x y d e long less more f b =
+      let whole = front ++ w ∷ rest in
+      let at_low : get_or whole low d ≡ x = get_or_append_left front (w ∷ rest) d low (omega (arith, long, less)) ∙ sym b in
+      let at_high : get_or whole high d ≡ w = grind (arith, (get_or-append_right front (w ∷ rest) high high d)) in
+      let within : high < length whole = grind (arith, long, length-append) in
+      let both : set (set whole low w) high x ≡ set front low w ++ x ∷ rest = subst (λ n. set (set whole low w) n x ≡ set front low w ++ x ∷ rest) long (set_both front w rest low x (omega (arith, long, less))) in
+      let swapped : set (set whole low w) high x ≡ swap whole low high = subst (λ v. set (set whole low v) high x ≡ swap whole low high) at_high (subst (λ v. set (set whole low (get_or whole high d)) high v ≡ swap whole low high) at_low (swap_is whole low high d (omega (arith, less, within)) within)) in
+      rw (f) (sym both ∙ swapped)
+
+  -- What a swap leaves at each index.
+  pub swapped_at : (xs : List X) (i j : ℕ) → i < length xs → j < length xs → SwappedAt xs (swap xs i j) i j
+  swapped_at xs i j within below = (
+    λ d. ap (λ l. get_or l i d) (sym (swap_is xs i j d within below)) ∙ grind (arith, get_or-set_same, get_or-set_other, length-set),
+    λ d. ap (λ l. get_or l j d) (sym (swap_is xs i j d within below)) ∙ grind (arith, get_or-set_same, get_or-set_other, length-set),
+    λ k d. λ not_i. λ not_j. ap (λ l. get_or l k d) (sym (swap_is xs i j d within below)) ∙ grind (arith, get_or-set_same, get_or-set_other, length-set),
+    λ d. sym (swap_is xs i j d within below),
+  )
 
   -- Where a moved item is, in the word of contracts.
   pub moved_item : (xs ys : List X) (from to : ℕ) → ys ≡ moved xs from to → from < length xs → to < length xs → slice_get ys to ≡ slice_get xs from

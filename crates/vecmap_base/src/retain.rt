@@ -1,8 +1,10 @@
 //! Functions that retain the items for which a closure returns `true`. Nothing is shifted, and one truncation at the
 //! end removes the others.
-ghost use Rattle.std.specs.{Prelude.{◌≡◌, ◌+◌, ◌≤◌, ◌&&◌, Bool, length, vec_capacity}, Fn.TakesAt, List.list_any};
+ghost use Rattle.std.specs.{Prelude.{◌≡◌, ◌+◌, ◌<◌, ◌≤◌, ◌&&◌, Bool, length, swap, vec_capacity}, Fn.TakesAt, List.{SwappedAt, list_any}};
 ghost use Rattle.vecmap_base.specs.FnMutCalls.{CallableAtPair, CallableAtPairMut, CallableOnEach, CallsAtItem, CallsAtPair, CallsAtPairMut};
 ghost use Rattle.vecmap_base.specs.Kept.{KeepsKeys, Kept, KeptSoFar, RetainsPairs, ReturnsAt};
+
+use std::mem::swap;
 
 /// Retains only the pairs for which `f` returns `true`, each with the value as `f` left it.
 ///
@@ -106,6 +108,11 @@ trait Predicate<X, Form>: Drop {
     fn keeps(&mut self, item: &mut X) -> bool
         requires { accepts self.old item.old }
         ensures { step self.old item.old result item.new self.new };
+
+    // Exchanges two items. A key and a value are exchanged each by itself: LLVM keeps them in registers, and a pair not.
+    fn exchange(a: &mut X, b: &mut X)
+        ensures first { a.new ≡ b.old }
+        ensures second { b.new ≡ a.old };
 }
 
 // A key and its value are passed, and the closure can write the value.
@@ -126,6 +133,12 @@ impl<K, V, F: FnMut(&K, &mut V) -> bool + Drop> Predicate<(K, V), PairForm> for 
     fn keeps(&mut self, pair: &mut (K, V)) -> bool {
         self(&pair.0, &mut pair.1)
     }
+
+    #[inline]
+    fn exchange(a: &mut (K, V), b: &mut (K, V)) {
+        swap(&mut a.0, &mut b.0);
+        swap(&mut a.1, &mut b.1);
+    }
 }
 
 impl<K, V, F: FnMut(&mut K, &mut V) -> bool + Drop> Predicate<(K, V), PairMutForm> for F {
@@ -137,6 +150,12 @@ impl<K, V, F: FnMut(&mut K, &mut V) -> bool + Drop> Predicate<(K, V), PairMutFor
     fn keeps(&mut self, pair: &mut (K, V)) -> bool {
         self(&mut pair.0, &mut pair.1)
     }
+
+    #[inline]
+    fn exchange(a: &mut (K, V), b: &mut (K, V)) {
+        swap(&mut a.0, &mut b.0);
+        swap(&mut a.1, &mut b.1);
+    }
 }
 
 impl<T, F: FnMut(&T) -> bool + Drop> Predicate<T, ItemForm> for F {
@@ -147,6 +166,11 @@ impl<T, F: FnMut(&T) -> bool + Drop> Predicate<T, ItemForm> for F {
     #[inline]
     fn keeps(&mut self, item: &mut T) -> bool {
         self(item)
+    }
+
+    #[inline]
+    fn exchange(a: &mut T, b: &mut T) {
+        swap(a, b);
     }
 }
 
@@ -160,11 +184,25 @@ fn retain<X: Drop, Form, A: Predicate<X, Form>>(items: &mut Vec<X>, mut asked: A
     let mut kept = rejected;
     for i in rejected + 1..items.len() {
         if asked.keeps(&mut items[i]) {
-            items.swap(kept, i);
+            swap_apart::<X, Form, A>(items, kept, i);
             kept += 1;
         }
     }
     items.truncate(kept);
+}
+
+// Swaps the items at two indices, of which `low` comes first, as the form of the items does.
+#[inline]
+fn swap_apart<X, Form, A: Predicate<X, Form>>(items: &mut Vec<X>, low: usize, high: usize)
+    requires order { low < high }
+    requires within { high < length items.old.items }
+    ensures len { length items.new.items ≡ length items.old.items }
+    ensures swapped { items.new.items ≡ swap items.old.items low high }
+    ensures by_index { SwappedAt items.old.items items.new.items low high }
+    ensures capacity { vec_capacity items.new ≡ vec_capacity items.old }
+{
+    let (front, back) = items.as_mut_slice().split_at_mut(high);
+    A::exchange(&mut front[low], &mut back[0]);
 }
 
 // Calls the closure with the items in order, up to the first that it rejects, and returns the index of that item. If it

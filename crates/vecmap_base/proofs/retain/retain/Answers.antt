@@ -26,15 +26,17 @@ loop-i-preserved g c =
     let l : i < length xs = omega (arith, c.loop-i-test.true, c.len-i-end.ensures, c.args.items.now.ok.0) in
     elim c.if-keeps.branch [
       | then-keeps w ↦
-          let zs = w.swap.new.self.items in
-          let long : length zs ≡ length ys = omega (arith, w.swap.new.self.ok.0, w.swap.ensures.len, length-set ys i y, c.loop-i.items.ok.0) in
+          let zs = w.swap_apart.new.items.items in
+          let long : length zs ≡ length ys = omega (arith, w.swap_apart.ensures.len, length-set ys i y, c.loop-i.items.ok.0) in
           rw (w.items-is, w.kept-is) (record {
-            kept = kept_one R c.args.asked f h xs ys k i p y so_far l at zs w.if-keeps.true c.keeps.ensures long w.swap.ensures.by_index;
-            capacity = w.swap.ensures.capacity ∙ c.loop-i.invariant.capacity;
+            kept = kept_one R c.args.asked f h xs ys k i p y so_far l at zs w.if-keeps.true c.keeps.ensures long w.swap_apart.ensures.by_index;
+            order = omega (arith, c.loop-i.invariant.order);
+            capacity = w.swap_apart.ensures.capacity ∙ c.loop-i.invariant.capacity;
           })
       | else-keeps w ↦
           rw (w.items-is, w.kept-is) (record {
             kept = kept_not R c.args.asked f h xs ys k i p y so_far l at w.if-keeps.false c.keeps.ensures;
+            order = omega (arith, c.loop-i.invariant.order);
             capacity = c.loop-i.invariant.capacity;
           })
     ]
