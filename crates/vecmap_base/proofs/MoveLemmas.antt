@@ -3,7 +3,7 @@
 use Rattle.std.specs.{List.Sorted.IsPermutation, List.SwappedAt, Option.option_map_or}
 use Rattle.std.proofs.Common.{◌≡◌, ℕ, zero, suc, ◌+◌, ◌-◌, ◌<◌, ◌≤◌, List, [], ◌∷◌, ◌++◌, ap, arith, append_assoc, drop, drop_at, get_or, insert, length, length-take-le, nat_eq, false, refl, remove, reverse, set, slice_get, swap, Some, subst, sym, take, take_at, true≢false, ◌∙◌}
 use Rattle.std.proofs.{lemmas.Bool.eq-eqb, lemmas.List.Edits.{length-remove, swap_is}, lemmas.Grind.get_or-set_at}
-use Rattle.std.proofs.lemmas.List.{length-append, drop-set-lt, get_or_append_left, get_or-append_right, get_or-reverse, get_or-set_other, get_or-set_same, length-reverse, length-set, take-set-le, take_more}
+use Rattle.std.proofs.lemmas.List.{drop-set-lt, get_or-append_right, get_or-reverse, get_or-set_other, get_or-set_same, get_or_append_left, length-append, length-reverse, length-set, take-set-le, take_more}
 use Rattle.std.proofs.lemmas.List.Sorted.{IsPermutation-insert, IsPermutation-remove, IsPermutation-trans}
 use Rattle.std.proofs.lemmas.Option.{get_or_from_slice_get, slice_get-get_or}
 use Rattle.vecmap_base.specs.Items.{moved}
@@ -176,10 +176,12 @@ module _ {X : Type 0} where
         ap (λ l. slice_get l i) (sym whole) ∙ inserted_found ys i x long,
       )
 
+  -- A write at the index behind the front.
   set_at_seam : (front : List X) (w : X) (rest : List X) (x : X) → set (front ++ w ∷ rest) (length front) x ≡ front ++ x ∷ rest
   set_at_seam [] w rest x = refl
   set_at_seam (z ∷ front) w rest x = ap (λ l. z ∷ l) (set_at_seam front w rest x)
 
+  -- A write to the front, and one at the index behind it.
   set_both : (front : List X) (w : X) (rest : List X) (low : ℕ) (x : X) → low < length front → set (set (front ++ w ∷ rest) low w) (length front) x ≡ set front low w ++ x ∷ rest
   set_both [] w rest low x less = absurd (omega arith)
   set_both (z ∷ front) w rest zero x less = ap (λ l. w ∷ l) (set_at_seam front w rest x)

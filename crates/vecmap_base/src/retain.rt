@@ -109,7 +109,8 @@ trait Predicate<X, Form>: Drop {
         requires { accepts self.old item.old }
         ensures { step self.old item.old result item.new self.new };
 
-    // Exchanges two items. A key and a value are exchanged each by itself: LLVM keeps them in registers, and a pair not.
+    // Exchanges two items. A key and a value are exchanged each by itself: LLVM keeps each in a register, but a pair on the
+    // stack.
     fn exchange(a: &mut X, b: &mut X)
         ensures first { a.new ≡ b.old }
         ensures second { b.new ≡ a.old };
@@ -191,7 +192,7 @@ fn retain<X: Drop, Form, A: Predicate<X, Form>>(items: &mut Vec<X>, mut asked: A
     items.truncate(kept);
 }
 
-// Swaps the items at two indices, of which `low` comes first, as the form of the items does.
+// Swaps the items at two indices, of which `low` comes first, by `exchange`.
 #[inline]
 fn swap_apart<X, Form, A: Predicate<X, Form>>(items: &mut Vec<X>, low: usize, high: usize)
     requires order { low < high }
