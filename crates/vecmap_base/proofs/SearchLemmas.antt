@@ -1,4 +1,5 @@
 -- What a binary search has found so far: about the item at its base, and about the items above the part that is left.
+use mir.Val.{bool_byte}
 use Rattle.std.proofs.Math.Nat.{pow-suc}
 use Rattle.std.proofs.Common.{◌≡◌, ℕ, zero, suc, ◌+◌, ◌*◌, ◌/◌, ◌^◌, ◌<◌, ◌≤◌, Bool, true, false, List, length, get_or, HoldsAt, if◌then◌else◌, ap, sym, ◌∙◌, arith, refl, subst, true≢false}
 use Rattle.std.specs.{List.AllWithin, List.Sorted.{IsNonDecreasingBy, IsPartitionPoint, IsPartitionedBy}, Ordering.{is_le, ordering_index}}
@@ -24,6 +25,16 @@ greater Greater h = refl
 pub no_step_past : (half step : ℕ) (is_up : Bool) → step ≡ (if is_up then half else 0) → step ≤ half
 no_step_past half step true by = omega (arith, by)
 no_step_past half step false by = omega (arith, by)
+
+-- The number that `usize::from` makes of a condition.
+pub one_if : (one : ℕ) (is_up : Bool) → one ≡ bool_byte is_up → one ≡ (if is_up then 1 else 0)
+one_if one true by = by
+one_if one false by = by
+
+-- The product of `n` and this number.
+pub product : (n one : ℕ) (is_up : Bool) → one ≡ bool_byte is_up → n * one ≡ (if is_up then n else 0)
+product n one true by = ap (λ k. n * k) by ∙ omega arith
+product n one false by = ap (λ k. n * k) by ∙ omega arith
 
 pub no_three_past : (n step : ℕ) (a b c : Bool) → step ≡ (if a then n else 0) + (if b then n else 0) + (if c then n else 0) → step ≤ 3 * n
 no_three_past n step a b c by = grind (arith, no_step_past)

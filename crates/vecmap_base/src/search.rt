@@ -49,7 +49,7 @@ pub fn search_by_index<C, T, F: Fn(usize) -> Ordering>(items: &[T], f: F) -> Res
     }
     let mut size = power_within(len);
     let start = len - size;
-    let mut base = zero_unless(start > 0 && f(start).is_le(), start);
+    let mut base = start * usize::from(start > 0 && f(start).is_le());
     let by_quarters = is_small::<C>();
     while by_quarters && size >= 4 {
         let quarter = size / 4;
@@ -58,6 +58,10 @@ pub fn search_by_index<C, T, F: Fn(usize) -> Ordering>(items: &[T], f: F) -> Res
         let third = f(base + 3 * quarter).is_le();
         base += times(quarter, first, second, third);
         size = quarter;
+    }
+    if by_quarters && size > 1 {
+        base += usize::from(f(base + 1).is_le());
+        size = 1;
     }
     while size > 1 {
         let half = size / 2;
@@ -138,8 +142,8 @@ fn power_within(len: usize) -> usize
     1 << (len - 1).max(1).ilog2()
 }
 
-// Returns `n` if `condition` holds, and 0 otherwise. The minimum of two numbers compiles to no branch. A branch would
-// be predicted wrongly in every second iteration of a search.
+// Returns `n` if `condition` holds, and 0 otherwise. In a loop, LLVM makes a branch of a product, but not of the minimum
+// of two numbers. A branch would be predicted wrongly in every second iteration of a search.
 #[inline]
 fn zero_unless(condition: bool, n: usize) -> usize
     ensures { result ≡ (if condition then n else 0) }
