@@ -1,6 +1,6 @@
 //! Functions that retain the items for which a closure returns `true`. Nothing is shifted, and one truncation at the
 //! end removes the others.
-ghost use Rattle.std.specs.{Prelude.{◌≡◌, ◌+◌, ◌<◌, ◌≤◌, ◌&&◌, Bool, length, swap, vec_capacity}, Fn.TakesAt, List.{SwappedAt, list_any}};
+ghost use Rattle.std.specs.{Prelude.{◌≡◌, ◌+◌, ◌<◌, ◌≤◌, ◌&&◌, Bool, length, vec_capacity}, Fn.TakesAt, List.{SwappedAt, list_any}};
 ghost use Rattle.vecmap_base.specs.FnMutCalls.{CallableAtPair, CallableAtPairMut, CallableOnEach, CallsAtItem, CallsAtPair, CallsAtPairMut};
 ghost use Rattle.vecmap_base.specs.Kept.{KeepsKeys, Kept, KeptSoFar, RetainsPairs, ReturnsAt};
 
@@ -198,8 +198,7 @@ fn swap_apart<X, Form, A: Predicate<X, Form>>(items: &mut Vec<X>, low: usize, hi
     requires order { low < high }
     requires within { high < length items.old.items }
     ensures len { length items.new.items ≡ length items.old.items }
-    ensures swapped { items.new.items ≡ swap items.old.items low high }
-    ensures by_index { SwappedAt items.old.items items.new.items low high }
+    ensures swapped { SwappedAt items.old.items items.new.items low high }
     ensures capacity { vec_capacity items.new ≡ vec_capacity items.old }
 {
     let (front, back) = items.as_mut_slice().split_at_mut(high);

@@ -29,7 +29,7 @@ loop-i-preserved g c =
           let zs = w.swap_apart.new.items.items in
           let long : length zs ≡ length ys = omega (arith, w.swap_apart.ensures.len, length-set ys i y, c.loop-i.items.ok.0) in
           rw (w.items-is, w.kept-is) (record {
-            kept = kept_one R c.args.asked f h xs ys k i p y so_far l at zs w.if-keeps.true c.keeps.ensures long w.swap_apart.ensures.by_index;
+            kept = kept_one R c.args.asked f h xs ys k i p y so_far l at zs w.if-keeps.true c.keeps.ensures long w.swap_apart.ensures.swapped;
             order = omega (arith, c.loop-i.invariant.order);
             capacity = w.swap_apart.ensures.capacity ∙ c.loop-i.invariant.capacity;
           })

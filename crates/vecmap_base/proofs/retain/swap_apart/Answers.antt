@@ -1,4 +1,5 @@
-use Rattle.std.proofs.Common.{◌≡◌, ◌++◌, ◌<◌, ap, arith, length, set, swap, take_at, sym, ◌∙◌}
+use Rattle.std.specs.List.{SwappedAt}
+use Rattle.std.proofs.Common.{◌≡◌, ◌++◌, ◌<◌, ap, arith, length, set, subst, swap, sym, take_at, ◌∙◌}
 use Rattle.std.proofs.lemmas.List.{length-append, length-set}
 use Rattle.vecmap_base.proofs.MoveLemmas.{joined_swap, swapped_at}
 use Rattle.vecmap_base.proofs.retain.swap_apart.Goals as goal
@@ -15,7 +16,6 @@ returns-clause-swapped g c =
     let joined : front ++ back ≡ items.items = sym halves.value ∙ c.as_mut_slice.ensures.value in
     let more : 0 < length back = omega (arith, halves.back_len, c.as_mut_slice.ensures.len, c.requires.within, items.ok) in
     let long : length (set front low y ++ set back 0 x) ≡ items.len = length-append (set front low y) (set back 0 x) ∙ omega (arith, length-set front low y, length-set back 0 x, halves.front_len, halves.back_len, c.as_mut_slice.ensures.len, items.ok) in
-    take_at (set front low y ++ set back 0 x) _ _ long ∙ joined_swap front back low c.args.high x y c.index-front-low.result c.index-back-0.result halves.front_len c.requires.order more c.exchange.ensures.first c.exchange.ensures.second ∙ ap (λ l. swap l low c.args.high) joined
-
-pub returns-clause-by_index : goal.returns-clause-by_index
-returns-clause-by_index g c = rw (returns-clause-swapped g c) (swapped_at c.args.items.now.items c.args.low c.args.high (omega (arith, c.requires.order, c.requires.within)) c.requires.within)
+    subst (λ l. SwappedAt items.items l low c.args.high)
+    (sym (take_at (set front low y ++ set back 0 x) _ _ long ∙ joined_swap front back low c.args.high x y c.index-front-low.result c.index-back-0.result halves.front_len c.requires.order more c.exchange.ensures.first c.exchange.ensures.second ∙ ap (λ l. swap l low c.args.high) joined))
+    (swapped_at items.items low c.args.high (omega (arith, c.requires.order, c.requires.within)) c.requires.within)
