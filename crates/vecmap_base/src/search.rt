@@ -59,6 +59,7 @@ pub fn search_by_index<C, T, F: Fn(usize) -> Ordering>(items: &[T], f: F) -> Res
         base += times(quarter, first, second, third);
         size = quarter;
     }
+    // Quarters leave one item or two.
     if by_quarters && size > 1 {
         base += usize::from(f(base + 1).is_le());
         size = 1;
