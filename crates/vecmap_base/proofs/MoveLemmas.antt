@@ -2,8 +2,8 @@
 -- the part by the one next to it does the same.
 use Rattle.std.specs.{List.Sorted.IsPermutation, List.SwappedAt, Option.option_map_or}
 use Rattle.std.proofs.Common.{◌≡◌, ℕ, zero, suc, ◌+◌, ◌-◌, ◌<◌, ◌≤◌, List, [], ◌∷◌, ◌++◌, ap, arith, append_assoc, drop, drop_at, get_or, insert, length, length-take-le, nat_eq, false, refl, remove, reverse, set, slice_get, swap, Some, subst, sym, take, take_at, true≢false, ◌∙◌}
-use Rattle.std.proofs.{lemmas.Bool.eq-eqb, lemmas.List.Edits.{length-remove, swap_is}, lemmas.Grind.get_or-set_at}
-use Rattle.std.proofs.lemmas.List.{drop-set-lt, get_or-append_right, get_or-reverse, get_or-set_other, get_or-set_same, get_or_append_left, length-append, length-reverse, length-set, take-set-le, take_more}
+use Rattle.std.proofs.{lemmas.Bool.eq-eqb, lemmas.List.Edits.{insert_end, length-remove, swap_is}, lemmas.Grind.get_or-set_at}
+use Rattle.std.proofs.lemmas.List.{drop-set-lt, get_or-append_right, get_or-reverse, get_or-set_other, get_or-set_same, get_or_append_left, length-append, length-reverse, length-set, set-append_left, set_at, take-set-le, take_more}
 use Rattle.std.proofs.lemmas.List.Sorted.{IsPermutation-insert, IsPermutation-remove, IsPermutation-trans}
 use Rattle.std.proofs.lemmas.Option.{get_or_from_slice_get, slice_get-get_or}
 use Rattle.vecmap_base.specs.Items.{moved}
@@ -88,11 +88,6 @@ module _ {X : Type 0} where
   pub replaced_and_moved : (xs : List X) (i to : ℕ) (x d : X) → i < length xs → insert (remove (set xs i x) i) to (get_or (set xs i x) i d) ≡ insert (remove xs i) to x
   replaced_and_moved xs i to x d within = grind (arith, take-set-le, drop-set-lt, get_or-set_same)
 
-  -- An item that is inserted at the end is the last.
-  inserted_last : (xs : List X) (x : X) → insert xs (length xs) x ≡ xs ++ x ∷ []
-  inserted_last [] x = refl
-  inserted_last (y ∷ ys) x = ap (λ l. y ∷ l) (inserted_last ys x)
-
   -- An inserted item is removed.
   pub inserted_removed : (xs : List X) (i : ℕ) (x : X) → i ≤ length xs → remove (insert xs i x) i ≡ xs
   inserted_removed [] zero x within = refl
@@ -171,21 +166,10 @@ module _ {X : Type 0} where
   -- The last item `last` of `xs` is taken, and each item from `i` on takes the place before its own.
   pub carried_over : (xs front ys : List X) (i end : ℕ) (last x : X) → xs ≡ front ++ last ∷ [] → end ≡ length front → i ≤ length ys → insert ys i x ≡ insert front end last → (ys ≡ remove xs i) × (slice_get xs i ≡ Some x)
   carried_over xs front ys i end last x taken at long e =
-      let whole : insert ys i x ≡ xs = e ∙ rw (at) (inserted_last front last) ∙ sym taken in (
+      let whole : insert ys i x ≡ xs = e ∙ rw (at) (insert_end front last) ∙ sym taken in (
         sym (inserted_removed ys i x long) ∙ ap (λ l. remove l i) whole,
         ap (λ l. slice_get l i) (sym whole) ∙ inserted_found ys i x long,
       )
-
-  -- A write at the index behind the front.
-  set_at_seam : (front : List X) (w : X) (rest : List X) (x : X) → set (front ++ w ∷ rest) (length front) x ≡ front ++ x ∷ rest
-  set_at_seam [] w rest x = refl
-  set_at_seam (z ∷ front) w rest x = ap (λ l. z ∷ l) (set_at_seam front w rest x)
-
-  -- A write to the front, and one at the index behind it.
-  set_both : (front : List X) (w : X) (rest : List X) (low : ℕ) (x : X) → low < length front → set (set (front ++ w ∷ rest) low w) (length front) x ≡ set front low w ++ x ∷ rest
-  set_both [] w rest low x less = absurd (omega arith)
-  set_both (z ∷ front) w rest zero x less = ap (λ l. w ∷ l) (set_at_seam front w rest x)
-  set_both (z ∷ front) w rest (suc low) x less = ap (λ l. z ∷ l) (set_both front w rest low x (omega arith))
 
   -- An item of the front and the first of the rest are exchanged.
   pub joined_swap : (front rest : List X) (low high : ℕ) (x y d e : X) → length front ≡ high → low < high → 0 < length rest → y ≡ get_or rest 0 e → x ≡ get_or front low d → set front low y ++ set rest 0 x ≡ swap (front ++ rest) low high
@@ -195,7 +179,8 @@ module _ {X : Type 0} where
       let at_low : get_or whole low d ≡ x = get_or_append_left front (w ∷ rest) d low (omega (arith, long, less)) ∙ sym b in
       let at_high : get_or whole high d ≡ w = grind (arith, (get_or-append_right front (w ∷ rest) high high d)) in
       let within : high < length whole = grind (arith, long, length-append) in
-      let both : set (set whole low w) high x ≡ set front low w ++ x ∷ rest = subst (λ n. set (set whole low w) n x ≡ set front low w ++ x ∷ rest) long (set_both front w rest low x (omega (arith, long, less))) in
+      let both : set (set whole low w) high x ≡ set front low w ++ x ∷ rest =
+      ap (λ l. set l high x) (set-append_left front (w ∷ rest) low w (omega (arith, long, less))) ∙ set_at (set front low w) w rest x high (length-set front low w ∙ long) in
       let swapped : set (set whole low w) high x ≡ swap whole low high = subst (λ v. set (set whole low v) high x ≡ swap whole low high) at_high (subst (λ v. set (set whole low (get_or whole high d)) high v ≡ swap whole low high) at_low (swap_is whole low high d (omega (arith, less, within)) within)) in
       rw (f) (sym both ∙ swapped)
 
