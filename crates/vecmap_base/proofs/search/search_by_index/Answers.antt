@@ -1,6 +1,6 @@
 -- The loops keep `Narrowed`: what is known of the item at `base` and of those from `base + size` on.
 use Rattle.std.specs.Ordering.{is_le}
-use Rattle.std.proofs.Common.{◌≡◌, ◌+◌, ◌-◌, ◌*◌, ◌/◌, ◌<◌, Ordering, ap, arith, if◌then◌else◌, length, subst, sym, true≢false, ◌∙◌}
+use Rattle.std.proofs.Common.{◌≡◌, ◌+◌, ◌-◌, ◌*◌, ◌/◌, ◌<◌, Ordering, ap, arith, if◌then◌else◌, length, refl, subst, sym, true≢false, ◌∙◌}
 use Rattle.vecmap_base.proofs.SearchLemmas.{Narrowed, halved, narrowed_first, narrowed_greater, narrowed_less, narrowed_none, narrowed_on, narrowed_quarter, no_step_past, no_three_past, one_if, product, quartered}
 use Rattle.vecmap_base.proofs.search.search_by_index.Goals as goal
 use Rattle.vecmap_base.proofs.search.search_by_index.Goals.{else-by_quarters, else-loop-size-test, else-start-gt0, then-by_quarters+then-size-gt1, then-loop-size-test+else-size-ge4, then-start-gt0}
@@ -61,27 +61,16 @@ loop-size-2-init g c =
           ] in
           let is_up = w.is_le-then-size-gt1.result in
           let by_one = one_if step is_up w.from-then-size-gt1.ensures in
-          let within = no_step_past 1 step is_up by_one in
-          record {
-            power = (0, w.size-is);
-            positive = omega (arith, w.size-is);
-            within = omega (arith, within, two, w.size-is, w.base-is, now.within);
+          rw (w.size-is, w.base-is) (record {
+            power = (0, refl);
+            positive = omega arith;
+            within = omega (arith, no_step_past 1 step is_up by_one, two, now.within);
             narrowed = λ ord by.
-                subst (λ n. Narrowed ord items c.if-by_quarters.base n) (sym w.size-is)
-                (subst (λ i. Narrowed ord items i 1) (sym w.base-is)
-                (narrowed_on ord items base size 1 1 step is_up (omega arith) (omega (arith, two)) by_one
-                (λ d. subst (λ (o : Ordering). is_le o ≡ w.is_le-then-size-gt1.result) (by (base + 1) _ (omega (arith, two, now.within)) w.f-then-size-gt1.ensures d) (sym w.is_le-then-size-gt1.ensures))
-                (now.narrowed ord by)));
-          }
-      | else-by_quarters w ↦
-          record {
-            power = (now.power.0, w.size-is ∙ now.power.1);
-            positive = omega (arith, w.size-is, now.positive);
-            within = omega (arith, w.size-is, w.base-is, now.within);
-            narrowed = λ ord by.
-                subst (λ n. Narrowed ord items c.if-by_quarters.base n) (sym w.size-is)
-                (subst (λ i. Narrowed ord items i size) (sym w.base-is) (now.narrowed ord by));
-          }
+                narrowed_on ord items base size 1 1 step is_up (omega arith) (omega (arith, two)) by_one
+                (λ d. subst (λ (o : Ordering). is_le o ≡ is_up) (by (base + 1) _ (omega (arith, two, now.within)) w.f-then-size-gt1.ensures d) (sym w.is_le-then-size-gt1.ensures))
+                (now.narrowed ord by);
+          })
+      | else-by_quarters w ↦ rw (w.size-is, w.base-is) now
     ]
 
 pub loop-size-2-preserved : goal.loop-size-2-preserved
